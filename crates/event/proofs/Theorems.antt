@@ -1,0 +1,65 @@
+-- The theorems on event words (document 01, "Event words"; demand 2: "Events and packed words that aren't refused convert each
+-- into the other without change"). They are about the definitions of `specs/Words.antt`, which the contracts of `unpack` and
+-- `pack` give as the whole answer. Assumes nothing.
+use Prim.Native.Nat.{ℕ, _^_, _<_, _≤_}
+use native.Mathlib.Omega.{arith}
+use mathlib.Core.Path.{_≡_, refl, _∙_, sym}
+use mathlib.Core.Logic.{_↔_}
+use mathlib.Core.Bool.{Bool, true, false}
+use lib.Dec.{ltb}
+use borrow.Author.Tests.{lt-ltb, le-ltb, ltb-true, ltb-false}
+use Rattle.event.specs.Words.{kindOf, fieldOf, bitsOf, eventOf, accept, unpacked, StrayBitSet, wordOf, strapsOf, wordUnless, packed, Bytes}
+use Rattle.event.specs.declared.Event.{Event}
+use Rattle.event.specs.declared.Unpacked.{Unpacked}
+use Rattle.event.specs.declared.Unpacked.the-variants.{Accepted, StrayBit}
+use Rattle.event.specs.declared.Packed.{Packed}
+use Rattle.event.specs.declared.Packed.the-variants.{Word, StrapsTooLarge}
+use Rattle.event.proofs.Bits.{high-bit, no-high-bit}
+use Rattle.event.proofs.RoundTrip.{word-back, event-back, accepted-is-none, word-is-none}
+use Rattle.event.proofs.unpack.Reads as unpack-reads
+use Rattle.event.proofs.pack.Reads as pack-reads
+use Rattle.event.proofs.Unpacked.refusal.Reads as unpack-refusal
+use Rattle.event.proofs.Packed.refusal.Reads as pack-refusal
+use Rattle.event.proofs.Packed.word.Reads as pack-word
+
+-- Unpacking then packing gives the word back, for every word that isn't refused.
+pub unpack-then-pack : (w : ℕ) → w < 2 ^ 16 → (e : Event) → unpacked w ≡ Accepted e → packed e ≡ Word w
+unpack-then-pack = word-back
+
+-- Packing then unpacking gives the event back, for every event that isn't refused.
+pub pack-then-unpack : (e : Event) → Bytes e → (w : ℕ) → packed e ≡ Word w → unpacked w ≡ Accepted e
+pack-then-unpack = event-back
+
+-- A word is refused exactly when a bit that must be 0 is set.
+pub words-refused : (w : ℕ) → (unpacked w ≡ StrayBit) ↔ StrayBitSet w
+unfolding unpacked
+words-refused w = go (ltb (fieldOf w) (2 ^ bitsOf (kindOf w))) refl
+  where
+    go : (b : Bool) → ltb (fieldOf w) (2 ^ bitsOf (kindOf w)) ≡ b → (accept b (eventOf (kindOf w) (fieldOf w)) ≡ StrayBit) ↔ StrayBitSet w
+    go true t = (λ p. absurd (accepted-is-none p), λ s. absurd (no-high-bit _ _ (ltb-true _ _ t) s))
+    go false t = (λ p. high-bit 13 _ _ (ltb-false _ _ t) (omega arith), λ s. refl)
+
+-- An event is refused exactly when its straps exceed 15.
+pub events-refused : (e : Event) → (packed e ≡ StrapsTooLarge) ↔ (15 < strapsOf e)
+unfolding packed
+events-refused e = go (ltb 15 (strapsOf e)) refl
+  where
+    go : (b : Bool) → ltb 15 (strapsOf e) ≡ b → (wordUnless b (wordOf e) ≡ StrapsTooLarge) ↔ (15 < strapsOf e)
+    go true t = (λ p. ltb-true _ _ t, λ h. refl)
+    go false t = (λ p. absurd (word-is-none p), λ h. absurd (omega (arith, ltb-false 15 (strapsOf e) t)))
+
+-- The contract of each call, as the checker reads it, determines the call's answer.
+pub unpack-determined : (w : ℕ) (r s : Unpacked) → unpack-reads.Post tt (w, tt) r (w, tt) → unpack-reads.Post tt (w, tt) s (w, tt) → r ≡ s
+unpack-determined w r s p q = p ∙ sym q
+
+pub pack-determined : (e : Event) (r s : Packed) → pack-reads.Post tt (e, tt) r (e, tt) → pack-reads.Post tt (e, tt) s (e, tt) → r ≡ s
+pack-determined e r s p q = p ∙ sym q
+
+pub unpack-refusal-determined : (u : Unpacked) (r s : ℕ) → unpack-refusal.Post tt (u, tt) r (u, tt) → unpack-refusal.Post tt (u, tt) s (u, tt) → r ≡ s
+unpack-refusal-determined u r s p q = p ∙ sym q
+
+pub pack-refusal-determined : (a : Packed) (r s : ℕ) → pack-refusal.Post tt (a, tt) r (a, tt) → pack-refusal.Post tt (a, tt) s (a, tt) → r ≡ s
+pack-refusal-determined a r s p q = p ∙ sym q
+
+pub pack-word-determined : (a : Packed) (r s : ℕ) → pack-word.Post tt (a, tt) r (a, tt) → pack-word.Post tt (a, tt) s (a, tt) → r ≡ s
+pack-word-determined a r s p q = p ∙ sym q

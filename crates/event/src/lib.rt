@@ -1,0 +1,149 @@
+// Event words (document 01, "Event words"): what can happen to a controller, one kind with its own
+// data, and its packing into 16 bits. `specs/Words.antt` has the table and what each call answers.
+ghost use mathlib.Core.Path.{_≡_};
+ghost use Prim.Native.Nat.{_<_, _+_, _*_, _^_};
+ghost use Rattle.event.specs.Words.{bitsOf, eventOf, unpacked, packed};
+ghost use Rattle.event.specs.Words.{unpackRefusal, packRefusal, packWord};
+
+pub enum Event {
+    Start,
+    Stop,
+    // A byte from the host.
+    Byte(u8),
+    // The host clocks a byte in, and ACKs it or not.
+    Take(bool),
+    // Levels: n1394, nUSB, nREMREQ, nSL of bay 0, then of bay 1; 0 is asserted.
+    Pins(u8),
+    Tick,
+    // Straps: SMB_A1, SMB_A0, LOCK_DEF, LOCK_MODE.
+    Reset { straps: u8, levels: u8 },
+    // SCLK held low too long.
+    Timeout,
+}
+
+// What unpacking a word answers.
+pub enum Unpacked {
+    Accepted(Event),
+    StrayBit,
+}
+
+// What packing an event answers.
+pub enum Packed {
+    Word(u16),
+    StrapsTooLarge,
+}
+
+impl Event {
+    // One more in bits 15-13, the kind.
+    pub const KIND: u16 = 8192;
+    // The largest straps that have a place in a word.
+    pub const MOST_STRAPS: u8 = 15;
+}
+
+// How many values the data of a kind can have: the bits above them must be 0.
+fn room(kind: u16) -> u16
+    ensures { λ r. ⌜ r ≡ 2 ^ bitsOf kind ⌝ }
+{
+    match kind {
+        2 | 4 => 256,
+        3 => 2,
+        6 => 4096,
+        _ => 1,
+    }
+}
+
+fn event_of(kind: u16, field: u16) -> Event
+    requires { ⌜ field < 2 ^ bitsOf kind ⌝ }
+    ensures { λ r. ⌜ r ≡ eventOf kind field ⌝ }
+{
+    match kind {
+        0 => Event::Start,
+        1 => Event::Stop,
+        2 => Event::Byte(field as u8),
+        3 => Event::Take(field == 1),
+        4 => Event::Pins(field as u8),
+        5 => Event::Tick,
+        6 => Event::Reset {
+            straps: (field / 256) as u8,
+            levels: (field % 256) as u8,
+        },
+        _ => Event::Timeout,
+    }
+}
+
+// The event of a word, unless a bit that must be 0 is set.
+pub fn unpack(word: u16) -> Unpacked
+    ensures { λ r. ⌜ r ≡ unpacked word ⌝ }
+{
+    let kind = word / Event::KIND;
+    let field = word % Event::KIND;
+    if field < room(kind) {
+        Unpacked::Accepted(event_of(kind, field))
+    } else {
+        Unpacked::StrayBit
+    }
+}
+
+// The word of a kind and its data.
+fn word(kind: u16, field: u16) -> Packed
+    requires { ⌜ (kind < 8) × (field < 8192) ⌝ }
+    ensures { λ r. ⌜ r ≡ Packed.Word (kind * 8192 + field) ⌝ }
+{
+    Packed::Word(kind * Event::KIND + field)
+}
+
+// The word of an event, unless its straps exceed 15.
+pub fn pack(event: Event) -> Packed
+    ensures { λ r. ⌜ r ≡ packed event ⌝ }
+{
+    match event {
+        Event::Start => word(0, 0),
+        Event::Stop => word(1, 0),
+        Event::Byte(b) => word(2, b as u16),
+        Event::Take(ack) => { if ack { word(3, 1) } else { word(3, 0) } }
+        Event::Pins(p) => word(4, p as u16),
+        Event::Tick => word(5, 0),
+        Event::Reset { straps, levels } => {
+            if straps <= Event::MOST_STRAPS {
+                word(6, straps as u16 * 256 + levels as u16)
+            } else {
+                Packed::StrapsTooLarge
+            }
+        }
+        Event::Timeout => word(7, 0),
+    }
+}
+
+impl Unpacked {
+    // The paper's number for the answer.
+    pub fn refusal(self) -> u8
+        ensures { λ r. ⌜ r ≡ unpackRefusal self ⌝ }
+    {
+        match self {
+            Unpacked::Accepted(_) => 0,
+            Unpacked::StrayBit => 2,
+        }
+    }
+}
+
+impl Packed {
+    // The paper's number for the answer.
+    pub fn refusal(self) -> u8
+        ensures { λ r. ⌜ r ≡ packRefusal self ⌝ }
+    {
+        match self {
+            Packed::Word(_) => 0,
+            Packed::StrapsTooLarge => 6,
+        }
+    }
+
+    // The word, 0 where the event was refused.
+    pub fn word(self) -> u16
+        ensures { λ r. ⌜ r ≡ packWord self ⌝ }
+    {
+        match self {
+            Packed::Word(w) => w,
+            Packed::StrapsTooLarge => 0,
+        }
+    }
+}
