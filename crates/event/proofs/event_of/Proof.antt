@@ -13,18 +13,6 @@ cast-t4 c = omega (arith, rw (c .match .keys3) at (c .before .pre))
 cast-t6 : tie.Need-cast-t6
 cast-t6 c = omega (arith, rw (c .match .keys5) at (c .before .pre))
 
-cast-t8 : tie.Need-cast-t8
-cast-t8 c = search needs
-
-cast-t10 : tie.Need-cast-t10
-cast-t10 c = search needs
-
-returns : tie.Need-returns
-returns c = search needs
-
-returns-2 : tie.Need-returns-2
-returns-2 c = search needs
-
 returns-3 : tie.Need-returns-3
 returns-3 c = rw (c .match .keys3)
 
@@ -33,9 +21,6 @@ returns-4 c = rw (c .match .keys4)
 
 returns-5 : tie.Need-returns-5
 returns-5 c = rw (c .match .keys5)
-
-returns-6 : tie.Need-returns-6
-returns-6 c = search needs
 
 returns-7 : tie.Need-returns-7
 returns-7 c = rw (c .match .keys7)
@@ -50,13 +35,13 @@ event-of-spec =
     (tie.spec
     cast-t4
     cast-t6
-    cast-t8
-    cast-t10
-    returns
-    returns-2
+    (λ c. search needs)
+    (λ c. search needs)
+    (λ c. search needs)
+    (λ c. search needs)
     returns-3
     returns-4
     returns-5
-    returns-6
+    (λ c. search needs)
     returns-7
     returns-8)

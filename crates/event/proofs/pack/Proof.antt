@@ -5,75 +5,6 @@ use Rattle.event.specs.Words.{packed, wordOf, strapsOf}
 use Rattle.event.proofs.pack.Statement.{statement}
 use Rattle.event.proofs.pack.Tie as tie
 
-enum-told : tie.Need-enum-told
-enum-told c = search needs
-
-word-requires : tie.Need-word-requires
-word-requires c κs = search needs
-
-enum-told-2 : tie.Need-enum-told-2
-enum-told-2 c = search needs
-
-word-requires-2 : tie.Need-word-requires-2
-word-requires-2 c κs = search needs
-
-enum-known-event : tie.Need-enum-known-event
-enum-known-event c = search needs
-
-cast-word : tie.Need-cast-word
-cast-word c = search needs
-
-word-requires-3 : tie.Need-word-requires-3
-word-requires-3 c κs = search needs
-
-enum-known-event-2 : tie.Need-enum-known-event-2
-enum-known-event-2 c = search needs
-
-word-requires-4 : tie.Need-word-requires-4
-word-requires-4 c κs = search needs
-
-word-requires-5 : tie.Need-word-requires-5
-word-requires-5 c κs = search needs
-
-enum-known-event-3 : tie.Need-enum-known-event-3
-enum-known-event-3 c = search needs
-
-cast-word-2 : tie.Need-cast-word-2
-cast-word-2 c = search needs
-
-word-requires-6 : tie.Need-word-requires-6
-word-requires-6 c κs = search needs
-
-enum-told-3 : tie.Need-enum-told-3
-enum-told-3 c = search needs
-
-word-requires-7 : tie.Need-word-requires-7
-word-requires-7 c κs = search needs
-
-enum-known-event-4 : tie.Need-enum-known-event-4
-enum-known-event-4 c = search needs
-
-cast-word-3 : tie.Need-cast-word-3
-cast-word-3 c = search needs
-
-mul-word : tie.Need-mul-word
-mul-word c = search needs
-
-cast-word-4 : tie.Need-cast-word-4
-cast-word-4 c = search needs
-
-add-word : tie.Need-add-word
-add-word c = search needs
-
-word-requires-8 : tie.Need-word-requires-8
-word-requires-8 c κs = search needs
-
-enum-told-4 : tie.Need-enum-told-4
-enum-told-4 c = search needs
-
-word-requires-9 : tie.Need-word-requires-9
-word-requires-9 c κs = search needs
-
 returns : tie.Need-returns
 unfolding packed wordOf strapsOf
 returns c = rw (c .before .enum-told .given .1) (c .word .ensures)
@@ -118,29 +49,29 @@ pub pack-spec : {M : Type 1} → statement M
 pack-spec =
     tie.close
     (tie.spec
-    enum-told
-    word-requires
-    enum-told-2
-    word-requires-2
-    enum-known-event
-    cast-word
-    word-requires-3
-    enum-known-event-2
-    word-requires-4
-    word-requires-5
-    enum-known-event-3
-    cast-word-2
-    word-requires-6
-    enum-told-3
-    word-requires-7
-    enum-known-event-4
-    cast-word-3
-    mul-word
-    cast-word-4
-    add-word
-    word-requires-8
-    enum-told-4
-    word-requires-9
+    (λ c. search needs)
+    (λ c κs. search needs)
+    (λ c. search needs)
+    (λ c κs. search needs)
+    (λ c. search needs)
+    (λ c. search needs)
+    (λ c κs. search needs)
+    (λ c. search needs)
+    (λ c κs. search needs)
+    (λ c κs. search needs)
+    (λ c. search needs)
+    (λ c. search needs)
+    (λ c κs. search needs)
+    (λ c. search needs)
+    (λ c κs. search needs)
+    (λ c. search needs)
+    (λ c. search needs)
+    (λ c. search needs)
+    (λ c. search needs)
+    (λ c. search needs)
+    (λ c κs. search needs)
+    (λ c. search needs)
+    (λ c κs. search needs)
     returns
     returns-2
     returns-3

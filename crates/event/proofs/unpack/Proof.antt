@@ -7,12 +7,6 @@ use Rattle.event.specs.declared.Unpacked.the-variants.{Accepted}
 use Rattle.event.proofs.unpack.Statement.{statement}
 use Rattle.event.proofs.unpack.Tie as tie
 
-room-requires : tie.Need-room-requires
-room-requires c κs = search needs
-
-event-of-requires : tie.Need-event-of-requires
-event-of-requires c κs = search needs
-
 returns : tie.Need-returns
 unfolding unpacked
 returns c = rw (lt-ltb _ _ (rw (c .before .before .room .ensures) at (c .before .if1 .taken))) (ap Accepted (c .event-of .ensures))
@@ -22,4 +16,4 @@ unfolding unpacked
 returns-2 c = rw (le-ltb _ _ (rw (c .before .room .ensures) at (c .if1 .left)))
 
 pub unpack-spec : {M : Type 1} → statement M
-unpack-spec = tie.close (tie.spec room-requires event-of-requires returns returns-2)
+unpack-spec = tie.close (tie.spec (λ c κs. search needs) (λ c κs. search needs) returns returns-2)
