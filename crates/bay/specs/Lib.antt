@@ -1,0 +1,6 @@
+pub mod Bits
+pub mod Record
+pub mod Debounce
+pub mod Moves
+pub mod Registers
+pub mod Outputs

@@ -1,0 +1,88 @@
+-- What a TICK makes of a bay (document 01, "Bay moves"): it makes at most one move, presence first.
+use Prim.Native.Nat.{ℕ, _-_}
+use mathlib.Core.Bool.{Bool, not, cond, _&&_, _||_}
+use mathlib.Core.List.{List, [], _∷_}
+use lib.Dec.{eqb}
+use Rattle.bay.specs.Record.{
+  N1394,
+  NUSB,
+  NREMREQ,
+  TICKS,
+  level,
+  acceptedLevel,
+  count,
+  anyAsserted,
+  present,
+  EMPTY,
+  INSERTED,
+  ENABLED,
+  REMOVAL-REQUESTED,
+  REMOVAL-ALLOWED,
+}
+use Rattle.bay.specs.Debounce.{debounce}
+use Rattle.bay.specs.declared.Bay.{Bay}
+use Rattle.bay.specs.declared.Input.{Input}
+
+-- Input i after this TICK: its accepted level, its count, and whether a level was accepted.
+abbrev pub input : Bay → ℕ → Input
+input b i = debounce TICKS (level b i) (acceptedLevel b i) (count b i)
+
+-- The rules below are over a bay and its inputs 1394 and USB, or removal request, after this TICK.
+abbrev pub presentAfter : Input → Input → Bool
+presentAfter n1394 nusb = anyAsserted (n1394 .accepted) (nusb .accepted)
+
+-- Present to not present; not present to present; a change of either presence bit.
+abbrev pub leaves : Bay → Input → Input → Bool
+leaves b n1394 nusb = present b && not (presentAfter n1394 nusb)
+
+abbrev pub arrives : Bay → Input → Input → Bool
+arrives b n1394 nusb = not (present b) && presentAfter n1394 nusb
+
+abbrev pub changes : Input → Input → Bool
+changes n1394 nusb = n1394 .settled || nusb .settled
+
+-- An accepted press: a removal request level accepted as 0 in this TICK.
+abbrev pub pressed : Input → Bool
+pressed nremreq = nremreq .settled && not (nremreq .accepted)
+
+-- A bay in Removal Allowed becomes not present with REMEVTWAK_EN clear.
+abbrev pub quiet : Bay → Input → Input → Bool
+quiet b n1394 nusb = eqb (b .state) REMOVAL-ALLOWED && leaves b n1394 nusb && not (b .«remevtwak_en»)
+
+-- A state from which a press goes to Removal Requested.
+unfoldable pub inUse : Bay → Bool
+inUse b = eqb (b .state) INSERTED || eqb (b .state) ENABLED
+
+-- 1. Present to not present: Empty. Not present to present with DEVSTSCHG_EN: Inserted.
+-- 2. If REMREQ_EN is 1, REMREQ_STS was 0 before this press, and step 1 gave no state, Inserted or Enabled goes to Removal Requested.
+unfoldable pub stateAfter : Bay → Bool → Bool → Bool → ℕ
+stateAfter b gone come press =
+    cond gone EMPTY
+    (cond (come && b .«devstschg_en») INSERTED
+    (cond (press && b .«remreq_en» && not (b .«remreq_sts») && inUse b) REMOVAL-REQUESTED (b .state)))
+
+unfoldable pub movedBay : Bay → Input → Input → Input → Bay
+movedBay b n1394 nusb nremreq =
+    record {
+      levels = b .levels;
+      accepted = n1394 .accepted ∷ nusb .accepted ∷ nremreq .accepted ∷ [];
+      counts = n1394 .count ∷ nusb .count ∷ nremreq .count ∷ [];
+      «n_sl» = b .«n_sl»;
+      state = stateAfter b (leaves b n1394 nusb) (arrives b n1394 nusb) (pressed nremreq);
+      -- An accepted press sets REMREQ_STS, in any state.
+      «remreq_sts» = b .«remreq_sts» || pressed nremreq;
+      -- A change of either presence bit sets DEVSTSCHG, except when quiet.
+      devstschg = b .devstschg || changes n1394 nusb && not (quiet b n1394 nusb);
+      «lock_ctl» = b .«lock_ctl»;
+      -- Present to not present: stored request 0, PWR_CTL 0.
+      request = cond (leaves b n1394 nusb) 0 (b .request);
+      «remreq_en» = b .«remreq_en»;
+      «devstschg_en» = b .«devstschg_en»;
+      «remevtwak_en» = b .«remevtwak_en»;
+      «pwr_ctl» = b .«pwr_ctl» && not (leaves b n1394 nusb);
+      -- Then a pulse above 0 falls by one.
+      pulse = b .pulse - 1;
+    }
+
+unfoldable pub tickedBay : Bay → Bay
+tickedBay b = movedBay b (input b N1394) (input b NUSB) (input b NREMREQ)

@@ -1,0 +1,93 @@
+-- A bay's two registers (document 01, "Registers"): BSTR and BCER as they read, and what a write does.
+use Prim.Native.Nat.{ℕ, _+_, _*_, _/_, _%_}
+use mathlib.Core.Bool.{Bool, not, cond, _&&_}
+use lib.Dec.{eqb, ltb, leb}
+use Rattle.bay.specs.Bits.{bit, put}
+use Rattle.bay.specs.Record.{N1394, NUSB, acceptedLevel, present, EMPTY, INSERTED, REMOVAL-REQUESTED, REMOVAL-ALLOWED}
+use Rattle.bay.specs.Moves.{inUse}
+use Rattle.bay.specs.declared.Bay.{Bay}
+use Rattle.bay.specs.declared.Control.{Control}
+
+-- BSTR: bit 7 inverse of nSL as last sampled; 6-4 bay state; 3 REMREQ_STS; 2 DEVSTSCHG; 1 and 0 accepted 1394 and USB presence.
+unfoldable pub bstrOf : Bay → ℕ
+bstrOf b =
+    put 7 (not (b .«n_sl»)) + b .state % 8 * 16 + put 3 (b .«remreq_sts») + put 2 (b .devstschg)
+    + put 1 (not (acceptedLevel b N1394)) + put 0 (not (acceptedLevel b NUSB))
+
+-- BCER: 7 LOCK_CTL, 6-4 stored request, 3 REMREQ_EN, 2 DEVSTSCHG_EN, 1 REMEVTWAK_EN, 0 PWR_CTL.
+unfoldable pub bcerOf : Bay → ℕ
+bcerOf b =
+    put 7 (b .«lock_ctl») + b .request % 8 * 16 + put 3 (b .«remreq_en») + put 2 (b .«devstschg_en»)
+    + put 1 (b .«remevtwak_en») + put 0 (b .«pwr_ctl»)
+
+-- BSTR: writing 1 to bit 3 or 2 clears it; other bits are ignored.
+unfoldable pub bstrWritten : ℕ → Bay → Bay
+bstrWritten v b =
+    record {
+      levels = b .levels;
+      accepted = b .accepted;
+      counts = b .counts;
+      «n_sl» = b .«n_sl»;
+      state = b .state;
+      «remreq_sts» = b .«remreq_sts» && not (bit 3 v);
+      devstschg = b .devstschg && not (bit 2 v);
+      «lock_ctl» = b .«lock_ctl»;
+      request = b .request;
+      «remreq_en» = b .«remreq_en»;
+      «devstschg_en» = b .«devstschg_en»;
+      «remevtwak_en» = b .«remevtwak_en»;
+      «pwr_ctl» = b .«pwr_ctl»;
+      pulse = b .pulse;
+    }
+
+-- A byte written to BCER, by its fields.
+unfoldable pub controlOf : ℕ → Control
+controlOf v =
+    record {
+      «lock_ctl» = bit 7 v;
+      request = v / 16 % 8;
+      «remreq_en» = bit 3 v;
+      «devstschg_en» = bit 2 v;
+      «remevtwak_en» = bit 1 v;
+      «pwr_ctl» = bit 0 v;
+    }
+
+-- Request 1-4 is stored; 0 and 5-7 keep the old one.
+unfoldable pub asks : Control → Bool
+asks c = ltb EMPTY (c .request) && leb (c .request) REMOVAL-ALLOWED
+
+unfoldable pub requestWritten : Control → Bay → ℕ
+requestWritten c b = cond (asks c) (c .request) (b .request)
+
+-- A write makes at most one move, the first that applies: request 1-4 with a device present, to that state; DEVSTSCHG_EN from 0
+-- to 1 in Empty with a device, to Inserted; REMREQ_EN from 0 to 1 with REMREQ_STS set in Inserted or Enabled, to Removal Requested.
+unfoldable pub stateWritten : Control → Bool → Bay → ℕ
+stateWritten c device b =
+    cond (asks c && device) (c .request)
+    (cond (c .«devstschg_en» && not (b .«devstschg_en») && eqb (b .state) EMPTY && device) INSERTED
+    (cond (c .«remreq_en» && not (b .«remreq_en») && b .«remreq_sts» && inUse b) REMOVAL-REQUESTED (b .state)))
+
+-- In LOCK_MODE 1 only, LOCK_CTL written from 1 to 0 starts a pulse with LETR's ticks, and another restarts it.
+unfoldable pub pulseWritten : Control → Bool → ℕ → Bay → ℕ
+pulseWritten c mode ticks b = cond (mode && b .«lock_ctl» && not (c .«lock_ctl»)) ticks (b .pulse)
+
+-- A write of BCER's fields, in a LOCK_MODE and with LETR's ticks. After it PWR_CTL is 1 exactly if it was written 1 with LOCK_CTL
+-- written 1 and a device present.
+unfoldable pub controlledBay : Control → Bool → ℕ → Bay → Bay
+controlledBay c mode ticks b =
+    record {
+      levels = b .levels;
+      accepted = b .accepted;
+      counts = b .counts;
+      «n_sl» = b .«n_sl»;
+      state = stateWritten c (present b) b;
+      «remreq_sts» = b .«remreq_sts»;
+      devstschg = b .devstschg;
+      «lock_ctl» = c .«lock_ctl»;
+      request = requestWritten c b;
+      «remreq_en» = c .«remreq_en»;
+      «devstschg_en» = c .«devstschg_en»;
+      «remevtwak_en» = c .«remevtwak_en»;
+      «pwr_ctl» = c .«pwr_ctl» && c .«lock_ctl» && present b;
+      pulse = pulseWritten c mode ticks b;
+    }

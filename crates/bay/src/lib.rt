@@ -1,0 +1,74 @@
+// One bay of a dock (document 01, "Bay moves", and what "Registers" says of a bay): its record and constants,
+// debounce, moves, its two registers and its outputs. It knows nothing of the bus, nor of the other bay.
+mod bits;
+mod debounce;
+mod moves;
+mod outputs;
+mod record;
+mod registers;
+
+// In each array the places are n1394, nUSB and nREMREQ; a level of false is 0, asserted.
+pub struct Bay {
+    // As last sampled.
+    pub levels: [bool; 3],
+    // As debounced.
+    pub accepted: [bool; 3],
+    // For how many ticks a level has differed from the accepted one.
+    pub counts: [u8; 3],
+    // nSL as last sampled: it is not debounced.
+    pub n_sl: bool,
+    pub state: u8,
+    pub remreq_sts: bool,
+    pub devstschg: bool,
+    pub lock_ctl: bool,
+    // The driver's stored request.
+    pub request: u8,
+    pub remreq_en: bool,
+    pub devstschg_en: bool,
+    pub remevtwak_en: bool,
+    pub pwr_ctl: bool,
+    // For how many ticks more the lock pin is held low.
+    pub pulse: u8,
+}
+
+impl Bay {
+    // The places of the debounced inputs.
+    pub const N1394: usize = 0;
+
+    pub const NUSB: usize = 1;
+
+    pub const NREMREQ: usize = 2;
+    // A level is accepted once it has differed for so many ticks.
+    pub const TICKS: u8 = 10;
+    // The longest pulse that a lock time makes.
+    pub const MOST_PULSE: u8 = 200;
+    // Bay states.
+    pub const EMPTY: u8 = 0;
+
+    pub const INSERTED: u8 = 1;
+
+    pub const ENABLED: u8 = 2;
+
+    pub const REMOVAL_REQUESTED: u8 = 3;
+
+    pub const REMOVAL_ALLOWED: u8 = 4;
+}
+
+// What a driver asks of a bay in one write.
+pub struct Control {
+    pub lock_ctl: bool,
+    // 0-7; 1-4 are bay states.
+    pub request: u8,
+    pub remreq_en: bool,
+    pub devstschg_en: bool,
+    pub remevtwak_en: bool,
+    pub pwr_ctl: bool,
+}
+
+// One input after a TICK.
+struct Input {
+    accepted: bool,
+    count: u8,
+    // A level was accepted in this TICK.
+    settled: bool,
+}

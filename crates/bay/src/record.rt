@@ -1,0 +1,67 @@
+// The records that a closing and a RESET make, and whether a record is fit.
+ghost use mathlib.Core.Path.{_≡_};
+ghost use Rattle.bay.specs.Record.{emptyBay, resetBay, bayFit};
+use crate::Bay;
+use crate::bits::has;
+
+impl Bay {
+    // Levels 1, the rest 0.
+    pub fn empty() -> Bay
+        ensures { λ r. ⌜ r ≡ emptyBay ⌝ }
+    {
+        Bay {
+            levels: [true; 3],
+            accepted: [true; 3],
+            counts: [0; 3],
+            n_sl: true,
+            state: Bay::EMPTY,
+            remreq_sts: false,
+            devstschg: false,
+            lock_ctl: false,
+            request: 0,
+            remreq_en: false,
+            devstschg_en: false,
+            remevtwak_en: false,
+            pwr_ctl: false,
+            pulse: 0,
+        }
+    }
+
+    // RESET, with the bay's four levels, nSL lowest, and what LOCK_CTL starts as.
+    pub fn reset(levels: u8, lock_ctl: bool) -> Bay
+        ensures { λ r. ⌜ r ≡ resetBay levels «lock_ctl» ⌝ }
+    {
+        let n1394 = has(levels, 8);
+        let nusb = has(levels, 4);
+        let nremreq = has(levels, 2);
+        Bay {
+            levels: [n1394, nusb, nremreq],
+            accepted: [n1394, nusb, nremreq],
+            counts: [0; 3],
+            n_sl: has(levels, 1),
+            state: Bay::EMPTY,
+            remreq_sts: false,
+            devstschg: !n1394 | !nusb,
+            lock_ctl,
+            request: 0,
+            remreq_en: false,
+            devstschg_en: false,
+            remevtwak_en: false,
+            pwr_ctl: false,
+            pulse: 0,
+        }
+    }
+
+    // Whether each number of the record is one that the rules can make.
+    pub fn fit(self) -> bool
+        ensures { λ r. ⌜ r ≡ bayFit self ⌝ }
+    {
+        let counts = self.counts;
+        (counts[Bay::N1394] < Bay::TICKS)
+            & (counts[Bay::NUSB] < Bay::TICKS)
+            & (counts[Bay::NREMREQ] < Bay::TICKS)
+            & (self.state <= Bay::REMOVAL_ALLOWED)
+            & (self.request <= Bay::REMOVAL_ALLOWED)
+            & (self.pulse <= Bay::MOST_PULSE)
+    }
+}

@@ -1,0 +1,118 @@
+// A bay's two registers (document 01, "Registers"): BSTR and BCER as they read, and what a write does.
+ghost use mathlib.Core.Path.{_≡_};
+ghost use Rattle.bay.specs.Registers.{bstrOf, bcerOf, bstrWritten, controlOf, asks, stateWritten, requestWritten, pulseWritten, controlledBay};
+use crate::Bay;
+use crate::Control;
+use crate::bits::has;
+use crate::bits::put;
+
+impl Bay {
+    // BSTR as it reads.
+    pub fn bstr(self) -> u8
+        ensures { λ r. ⌜ r ≡ bstrOf self ⌝ }
+    {
+        let accepted = self.accepted;
+        put(!self.n_sl, 128)
+            + self.state % 8 * 16
+            + put(self.remreq_sts, 8)
+            + put(self.devstschg, 4)
+            + put(!accepted[Bay::N1394], 2)
+            + put(!accepted[Bay::NUSB], 1)
+    }
+
+    // BCER as it reads.
+    pub fn bcer(self) -> u8
+        ensures { λ r. ⌜ r ≡ bcerOf self ⌝ }
+    {
+        put(self.lock_ctl, 128)
+            + self.request % 8 * 16
+            + put(self.remreq_en, 8)
+            + put(self.devstschg_en, 4)
+            + put(self.remevtwak_en, 2)
+            + put(self.pwr_ctl, 1)
+    }
+
+    // A write to BSTR: 1 clears REMREQ_STS or DEVSTSCHG.
+    pub fn with_bstr(mut self, value: u8) -> Bay
+        ensures { λ r. ⌜ r ≡ bstrWritten value self ⌝ }
+    {
+        self.remreq_sts = self.remreq_sts & !has(value, 8);
+        self.devstschg = self.devstschg & !has(value, 4);
+        self
+    }
+
+    // The state after a write: the first move that applies.
+    fn state_written(self, c: Control, present: bool) -> u8
+        ensures { λ r. ⌜ r ≡ stateWritten c present self ⌝ }
+    {
+        if c.asks() & present {
+            return c.request;
+        }
+        if c.devstschg_en & !self.devstschg_en & (self.state == Bay::EMPTY) & present {
+            return Bay::INSERTED;
+        }
+        if c.remreq_en & !self.remreq_en & self.remreq_sts & self.in_use() {
+            return Bay::REMOVAL_REQUESTED;
+        }
+        self.state
+    }
+
+    fn request_written(self, c: Control) -> u8
+        ensures { λ r. ⌜ r ≡ requestWritten c self ⌝ }
+    {
+        if c.asks() { c.request } else { self.request }
+    }
+
+    // In LOCK_MODE 1, LOCK_CTL from 1 to 0 starts a pulse of `ticks`.
+    fn pulse_written(self, c: Control, lock_mode: bool, ticks: u8) -> u8
+        ensures { λ r. ⌜ r ≡ pulseWritten c «lock_mode» ticks self ⌝ }
+    {
+        if lock_mode & self.lock_ctl & !c.lock_ctl {
+            ticks
+        } else {
+            self.pulse
+        }
+    }
+
+    // What a driver's write does.
+    pub fn controlled(mut self, c: Control, lock_mode: bool, ticks: u8) -> Bay
+        ensures { λ r. ⌜ r ≡ controlledBay c «lock_mode» ticks self ⌝ }
+    {
+        let present = self.present();
+        let state = self.state_written(c, present);
+        let request = self.request_written(c);
+        let pulse = self.pulse_written(c, lock_mode, ticks);
+        self.state = state;
+        self.lock_ctl = c.lock_ctl;
+        self.request = request;
+        self.remreq_en = c.remreq_en;
+        self.devstschg_en = c.devstschg_en;
+        self.remevtwak_en = c.remevtwak_en;
+        self.pwr_ctl = c.pwr_ctl & c.lock_ctl & present;
+        self.pulse = pulse;
+        self
+    }
+}
+
+impl Control {
+    // What a byte written to BCER asks.
+    pub fn of(value: u8) -> Control
+        ensures { λ r. ⌜ r ≡ controlOf value ⌝ }
+    {
+        Control {
+            lock_ctl: has(value, 128),
+            request: value / 16 % 8,
+            remreq_en: has(value, 8),
+            devstschg_en: has(value, 4),
+            remevtwak_en: has(value, 2),
+            pwr_ctl: has(value, 1),
+        }
+    }
+
+    // A request that is stored: 0 and 5-7 keep the old one.
+    fn asks(self) -> bool
+        ensures { λ r. ⌜ r ≡ asks self ⌝ }
+    {
+        (Bay::EMPTY < self.request) & (self.request <= Bay::REMOVAL_ALLOWED)
+    }
+}
