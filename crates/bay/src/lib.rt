@@ -10,11 +10,11 @@ mod registers;
 // In each array the places are n1394, nUSB and nREMREQ; a level of false is 0, asserted.
 pub struct Bay {
     // As last sampled.
-    pub levels: [bool; 3],
+    pub levels: [bool; Bay::INPUTS],
     // As debounced.
-    pub accepted: [bool; 3],
+    pub accepted: [bool; Bay::INPUTS],
     // For how many ticks a level has differed from the accepted one.
-    pub counts: [u8; 3],
+    pub counts: [u8; Bay::INPUTS],
     // nSL as last sampled: it is not debounced.
     pub n_sl: bool,
     pub state: u8,
@@ -32,7 +32,8 @@ pub struct Bay {
 }
 
 impl Bay {
-    // The places of the debounced inputs.
+    // The debounced inputs, and their places.
+    pub const INPUTS: usize = 3;
     pub const N1394: usize = 0;
 
     pub const NUSB: usize = 1;

@@ -10,9 +10,9 @@ impl Bay {
         ensures { λ r. ⌜ r ≡ emptyBay ⌝ }
     {
         Bay {
-            levels: [true; 3],
-            accepted: [true; 3],
-            counts: [0; 3],
+            levels: [true; Bay::INPUTS],
+            accepted: [true; Bay::INPUTS],
+            counts: [0; Bay::INPUTS],
             n_sl: true,
             state: Bay::EMPTY,
             remreq_sts: false,
@@ -37,7 +37,7 @@ impl Bay {
         Bay {
             levels: [n1394, nusb, nremreq],
             accepted: [n1394, nusb, nremreq],
-            counts: [0; 3],
+            counts: [0; Bay::INPUTS],
             n_sl: has(levels, 1),
             state: Bay::EMPTY,
             remreq_sts: false,
