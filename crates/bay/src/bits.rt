@@ -5,7 +5,7 @@ ghost use Prim.Native.Nat.{_<_, _≤_, _/_, _%_};
 ghost use lib.Dec.{eqb};
 
 // Whether the bit of that weight is set.
-pub fn has(value: u8, weight: u8) -> bool
+pub(crate) fn has(value: u8, weight: u8) -> bool
     requires { ⌜ 0 < weight ⌝ }
     ensures { λ r. ⌜ r ≡ eqb (value / weight % 2) 1 ⌝ }
 {
@@ -13,7 +13,7 @@ pub fn has(value: u8, weight: u8) -> bool
 }
 
 // What a bit of that weight adds to a byte.
-pub fn put(on: bool, weight: u8) -> u8
+pub(crate) fn put(on: bool, weight: u8) -> u8
     ensures { λ r. ⌜ r ≡ cond on weight 0 ⌝ }
     ensures small { λ r. ⌜ r ≤ weight ⌝ }
 {

@@ -7,7 +7,7 @@ use crate::Input;
 use crate::bits::has;
 
 // A TICK: a count whose level differs rises by one; at `length` the level is accepted and the count is 0.
-pub fn debounced(length: u8, level: bool, accepted: bool, count: u8) -> Input
+pub(crate) fn debounced(length: u8, level: bool, accepted: bool, count: u8) -> Input
     requires { ⌜ 0 < length ⌝ }
     ensures { λ r. ⌜ r ≡ debounce length level accepted count ⌝ }
 {

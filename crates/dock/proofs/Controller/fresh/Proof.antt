@@ -1,0 +1,12 @@
+-- `dock::Controller::fresh` meets its contract: each part is what the call for it ensures. Assumes nothing.
+use borrow.Author.Needs.{needs}
+use Rattle.dock.specs.Record.{freshController}
+use Rattle.dock.proofs.Controller.fresh.Statement.{statement}
+use Rattle.dock.proofs.Controller.fresh.Tie as tie
+
+returns : tie.Need-returns
+unfolding freshController
+returns c = rw (c .before .empty .ensures, c .empty2 .ensures)
+
+pub fresh-spec : {M : Type 1} → statement M
+fresh-spec = tie.close (tie.spec (λ c κs. search needs) (λ c κs. search needs) returns)

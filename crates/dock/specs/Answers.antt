@@ -1,0 +1,40 @@
+-- The paper's numbers of an answer (document 01, "Replies and refusal numbers"): the table's columns, case by case.
+use Prim.Native.Nat.{ℕ}
+use Rattle.bus.specs.Reply.{replyNumber, replyByte}
+use Rattle.dock.specs.declared.Answer.{Answer}
+use Rattle.dock.specs.declared.Answer.the-variants.{Done, Unfit, StrayBit, NotStarted}
+use Rattle.dock.specs.declared.Told.{Told}
+use Rattle.dock.specs.declared.Told.the-variants.{Value, Unfit as NotFit}
+
+unfoldable pub refusalOf : Answer → ℕ
+refusalOf (Done r o) = 0
+refusalOf Unfit = 1
+refusalOf (StrayBit o) = 2
+refusalOf NotStarted = 3
+
+unfoldable pub replyOf : Answer → ℕ
+replyOf (Done r o) = replyNumber r
+replyOf Unfit = 0
+replyOf (StrayBit o) = 0
+replyOf NotStarted = 0
+
+unfoldable pub byteOf : Answer → ℕ
+byteOf (Done r o) = replyByte r
+byteOf Unfit = 0
+byteOf (StrayBit o) = 0
+byteOf NotStarted = 0
+
+unfoldable pub outputsIn : Answer → ℕ
+outputsIn (Done r o) = o
+outputsIn Unfit = 0
+outputsIn (StrayBit o) = o
+outputsIn NotStarted = 0
+
+-- A question about a state: an unfit state is refused with 1 and value 0.
+unfoldable pub toldRefusal : Told → ℕ
+toldRefusal (Value v) = 0
+toldRefusal NotFit = 1
+
+unfoldable pub toldValue : Told → ℕ
+toldValue (Value v) = v
+toldValue NotFit = 0

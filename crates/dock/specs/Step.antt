@@ -1,0 +1,54 @@
+-- One event word at a time (document 01, "Replies and refusal numbers").
+use Prim.Native.Nat.{ℕ}
+use mathlib.Core.Bool.{Bool, true, false, cond}
+use Rattle.event.specs.Words.{unpacked}
+use Rattle.event.specs.declared.Event.{Event}
+use Rattle.event.specs.declared.Event.the-variants.{Start, Stop, Byte, Take, Pins, Tick, Reset, Timeout}
+use Rattle.event.specs.declared.Unpacked.{Unpacked}
+use Rattle.event.specs.declared.Unpacked.the-variants.{Accepted, StrayBit as NoEvent}
+use Rattle.dock.specs.Record.{fits}
+use Rattle.dock.specs.Outputs.{outputsOf}
+use Rattle.dock.specs.Registers.{readingOf}
+use Rattle.dock.specs.Events.{actedOn}
+use Rattle.dock.specs.declared.Controller.{Controller}
+use Rattle.dock.specs.declared.Acted.{Acted}
+use Rattle.dock.specs.declared.Answer.{Answer}
+use Rattle.dock.specs.declared.Answer.the-variants.{Done, Unfit, StrayBit, NotStarted}
+use Rattle.dock.specs.declared.Stepped.{Stepped}
+use Rattle.dock.specs.declared.Told.{Told}
+use Rattle.dock.specs.declared.Told.the-variants.{Value, Unfit as NotFit}
+
+-- No RESET yet and this isn't one: not taken.
+unfoldable pub takes : Bool → Event → Bool
+takes true e = true
+takes false Start = false
+takes false Stop = false
+takes false (Byte b) = false
+takes false (Take ack) = false
+takes false (Pins l) = false
+takes false Tick = false
+takes false (Reset s l) = true
+takes false Timeout = false
+
+-- On a refusal the state comes back as given.
+abbrev pub refused : Controller → Answer → Stepped
+refused s a = record { controller = s; answer = a }
+
+-- The next state, its reply and its outputs.
+abbrev pub done : Acted → Stepped
+done a = record { controller = a .controller; answer = Done (a .reply) (outputsOf (a .controller)) }
+
+-- Order for an event: 1, 2, 3.
+abbrev pub stepFit : Controller → Unpacked → Stepped
+stepFit s NoEvent = refused s (StrayBit (outputsOf s))
+stepFit s (Accepted e) = cond (takes (s .started) e) (done (actedOn s e)) (refused s NotStarted)
+
+unfoldable pub stepOf : Controller → ℕ → Stepped
+stepOf s w = cond (fits s) (stepFit s (unpacked w)) (refused s Unfit)
+
+-- Asking a state for one register's reading or for its outputs, outside the bus.
+unfoldable pub toldReading : Controller → ℕ → Told
+toldReading s a = cond (fits s) (Value (readingOf s a)) NotFit
+
+unfoldable pub toldOutputs : Controller → Told
+toldOutputs s = cond (fits s) (Value (outputsOf s)) NotFit
