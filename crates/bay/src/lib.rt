@@ -34,6 +34,7 @@ pub struct Bay {
 impl Bay {
     // The debounced inputs, and their places.
     pub const INPUTS: usize = 3;
+
     pub const N1394: usize = 0;
 
     pub const NUSB: usize = 1;

@@ -1,0 +1,3 @@
+pub mod Taut
+pub mod Fit
+pub mod Sound
