@@ -1,6 +1,6 @@
 -- A fit bay stays fit, whatever happens to it: each number of the record is one of those that a rule picks from, and all of these
 -- are in range. Assumes nothing.
-use Prim.Native.Nat.{ℕ, _-_, _+_, _≤_, _<_}
+use Prim.Native.Nat.{ℕ, _+_, _≤_, _<_}
 use native.Mathlib.Omega.{arith}
 use mathlib.Core.Path.{_≡_, refl}
 use mathlib.Core.Bool.{Bool, true, false, not, cond, _&&_, Bool·beq, and-eq-true-iff}
@@ -8,7 +8,7 @@ use mathlib.Core.Logic.{_↔_}
 use lib.Dec.{ltb, eqb}
 use borrow.Author.Tests.{lt-ltb, le-leb, ltb-true, leb-true, leb-false}
 use Rattle.bay.specs.Record.{N1394, NUSB, NREMREQ, TICKS, EMPTY, INSERTED, REMOVAL-REQUESTED, REMOVAL-ALLOWED, count, present, emptyBay, resetBay, bayFit}
-use Rattle.bay.specs.Debounce.{differs, settles, countAfter, debounce, restart, sampledBay}
+use Rattle.bay.specs.Debounce.{differs, settles, debounce, restart, sampledBay}
 use Rattle.bay.specs.Moves.{input, leaves, inUse, stateAfter, movedBay, tickedBay}
 use Rattle.bay.specs.Registers.{bstrWritten, asks, requestWritten, stateWritten, pulseWritten, controlledBay}
 use Rattle.bay.specs.declared.Bay.{Bay}

@@ -1,23 +1,23 @@
 -- What the rules of a bay come to (document 01, "Registers" and "Bay moves"): the theorems that others cite, and the readings that
 -- the paper shuts out. Each rewrites a rule by what is known of its tests. Assumes nothing.
-use Prim.Native.Nat.{ℕ, zero, suc, _+_, _^_, _<_, _≤_, zero-le}
+use Prim.Native.Nat.{ℕ, zero, suc, _^_, _<_, _≤_, zero-le}
 use native.Mathlib.Omega.{arith}
 use native.Mathlib.Nat.{le-refl}
 use mathlib.Core.Path.{_≡_, refl, sym, _∙_}
-use mathlib.Core.Logic.{_↔_, _⊎_, inl, inr, _≢_}
-use mathlib.Core.Bool.{Bool, true, false, not, cond, _&&_, _||_, and-eq-true-iff, and-true, and-false, and-not-self, not-and-self, or-true, true≢false, false≢true}
-use lib.Dec.{eqb, ltb, leb}
-use borrow.Author.Tests.{lt-ltb, le-ltb, le-leb, lt-leb, not-true, not-false}
+use mathlib.Core.Logic.{_↔_, _⊎_, inl, inr}
+use mathlib.Core.Bool.{Bool, true, false, not, cond, _&&_, and-eq-true-iff, and-true, and-false, and-not-self, not-and-self, or-true}
+use borrow.Author.Tests.{lt-ltb, le-leb, lt-leb}
 use Rattle.bay.specs.Bits.{put}
-use Rattle.bay.specs.Record.{N1394, NUSB, NREMREQ, EMPTY, ENABLED, REMOVAL-REQUESTED, REMOVAL-ALLOWED, present, acceptedLevel}
-use Rattle.bay.specs.Debounce.{differs}
-use Rattle.bay.specs.Moves.{input, leaves, arrives, pressed, presentAfter, inUse, stateAfter, movedBay, tickedBay}
+use Rattle.bay.specs.Record.{N1394, NUSB, NREMREQ, EMPTY, ENABLED, REMOVAL-REQUESTED, REMOVAL-ALLOWED, level, acceptedLevel, count, present}
+use Rattle.bay.specs.Debounce.{differs, sampledBay}
+use Rattle.bay.specs.Moves.{input, leaves, pressed, presentAfter, inUse, stateAfter, movedBay, tickedBay}
 use Rattle.bay.specs.Registers.{bstrOf, bcerOf, asks, stateWritten, requestWritten, controlledBay}
 use Rattle.bay.specs.Outputs.{lockPin, green, yellow, drives}
-use Rattle.bay.specs.Held.{afterTicks}
+use Rattle.bay.specs.Held.{afterTicks, tickedFor}
+use Rattle.bay.specs.Sound.{Sound}
 use Rattle.bay.specs.declared.Bay.{Bay}
 use Rattle.bay.specs.declared.Control.{Control}
-use Rattle.bay.proofs.Length.{counting, settledAt, counts-up, settles-last}
+use Rattle.bay.proofs.Length.{counting, settledAt, counts-up, settles-last, follows, sampled-from-0}
 
 -- ---- power
 
@@ -190,3 +190,20 @@ pub debounce-length :
     × (afterTicks length level (counting accepted 0) length ≡ settledAt level)
 debounce-length zero level accepted l d = absurd (omega arith)
 debounce-length (suc k) level accepted l d = (counts-up (suc k) level accepted d, settles-last k level accepted d)
+
+-- So in a bay: an input whose level differs, counted from 0, has its old accepted level through nine ticks and the new one at the tenth.
+pub ten-ticks :
+    (b : Bay) (i : ℕ) → i < 3 → differs (level b i) (acceptedLevel b i) ≡ true → count b i ≡ 0
+    → ((k : ℕ) → k < 10 → acceptedLevel (tickedFor k b) i ≡ acceptedLevel b i) × (acceptedLevel (tickedFor 10 b) i ≡ level b i)
+ten-ticks b i l d z =
+    let exactly = debounce-length 10 (level b i) (acceptedLevel b i) (omega arith) d in
+    (λ k h. follows k b i l .accepts ∙ rw (z, exactly .0 k h), follows 10 b i l .accepts ∙ rw (z, exactly .1))
+
+-- In a sound bay an input at rest that PINS changes takes all ten ticks, whatever it did before: ticks before a rest don't count.
+pub ten-ticks-from-rest :
+    (levels : ℕ) (b : Bay) (i : ℕ) → Sound b → i < 3 → level b i ≡ acceptedLevel b i
+    → differs (level (sampledBay levels b) i) (acceptedLevel b i) ≡ true
+    → ((k : ℕ) → k < 10 → acceptedLevel (tickedFor k (sampledBay levels b)) i ≡ acceptedLevel b i)
+    × (acceptedLevel (tickedFor 10 (sampledBay levels b)) i ≡ level (sampledBay levels b) i)
+unfolding sampledBay
+ten-ticks-from-rest levels b i s l r d = ten-ticks (sampledBay levels b) i l d (sampled-from-0 levels b i l (s .still i r))

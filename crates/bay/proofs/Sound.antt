@@ -1,18 +1,17 @@
 -- A sound bay stays sound, whatever happens to it, and RESET makes one. Held and waiting speak of three Bools only (a device, Empty,
 -- DEVSTSCHG_EN), and powered of three (PWR_CTL, LOCK_CTL, a device), so that each step is a tautology over the tests that it makes.
 -- Assumes nothing.
-use Prim.Native.Nat.{ℕ, zero, suc, _+_, _<_}
-use native.Mathlib.Omega.{arith}
-use mathlib.Core.Path.{_≡_, refl, sym}
+use Prim.Native.Nat.{ℕ, zero, suc, _+_}
+use mathlib.Core.Path.{_≡_, refl}
 use mathlib.Core.Logic.{_≢_}
-use mathlib.Core.Bool.{Bool, true, false, not, cond, _&&_, _||_, Bool·beq, and-eq-true-iff, true≢false, false≢true}
-use mathlib.Core.List.{List, [], _∷_}
+use mathlib.Core.Bool.{Bool, true, false, not, cond, _&&_, _||_, and-eq-true-iff, true≢false, false≢true}
+use mathlib.Core.List.{[], _∷_}
 use lib.ListN.{getD}
 use lib.Dec.{eqb, ltb, leb}
-use borrow.Author.Tests.{eq-eqb, ne-eqb, eqb-true, eqb-false, not-true, ltb-true}
-use Rattle.bay.specs.Record.{N1394, NUSB, NREMREQ, EMPTY, INSERTED, ENABLED, REMOVAL-REQUESTED, TICKS, present, level, acceptedLevel, count, emptyBay, resetBay}
+use borrow.Author.Tests.{eq-eqb, ne-eqb, eqb-true, eqb-false, not-true}
+use Rattle.bay.specs.Record.{N1394, NUSB, NREMREQ, EMPTY, INSERTED, ENABLED, present, level, acceptedLevel, count, emptyBay, resetBay, bayFit}
 use Rattle.bay.specs.Debounce.{debounce, restart, sampledBay}
-use Rattle.bay.specs.Moves.{input, leaves, arrives, pressed, presentAfter, inUse, stateAfter, movedBay, tickedBay}
+use Rattle.bay.specs.Moves.{input, pressed, presentAfter, inUse, stateAfter, movedBay, tickedBay}
 use Rattle.bay.specs.Registers.{bstrWritten, asks, stateWritten, controlledBay}
 use Rattle.bay.specs.Sound.{Sound}
 use Rattle.bay.specs.declared.Bay.{Bay}
@@ -211,3 +210,27 @@ controlled-sound c mode ticks b s =
       waiting = place .waiting;
       still = s .still;
     }
+
+-- Fitness alone doesn't make a bay sound: this one is fit, and powered with nothing in it.
+poweredAndEmpty : Bay
+poweredAndEmpty =
+    record {
+      levels = true ∷ true ∷ true ∷ [];
+      accepted = true ∷ true ∷ true ∷ [];
+      counts = 0 ∷ 0 ∷ 0 ∷ [];
+      «n_sl» = true;
+      state = EMPTY;
+      «remreq_sts» = false;
+      devstschg = false;
+      «lock_ctl» = true;
+      request = 0;
+      «remreq_en» = false;
+      «devstschg_en» = false;
+      «remevtwak_en» = false;
+      «pwr_ctl» = true;
+      pulse = 0;
+    }
+
+pub sound-is-more-than-fit : (b : Bay) × (bayFit b ≡ true) × (Sound b → ⊥)
+unfolding poweredAndEmpty bayFit present
+sound-is-more-than-fit = (poweredAndEmpty, refl, λ s. false≢true (s .powered refl .1))
