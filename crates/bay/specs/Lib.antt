@@ -4,3 +4,5 @@ pub mod Debounce
 pub mod Moves
 pub mod Registers
 pub mod Outputs
+pub mod Sound
+pub mod Held

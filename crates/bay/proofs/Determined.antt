@@ -1,0 +1,76 @@
+-- The contract of each exported function of a bay, as the checker reads it, determines the function's answer: it gives the whole
+-- answer by an equation. Assumes nothing.
+use Prim.Native.Nat.{ℕ}
+use mathlib.Core.Path.{_≡_, sym, _∙_}
+use mathlib.Core.Bool.{Bool}
+use Rattle.bay.specs.declared.Bay.{Bay}
+use Rattle.bay.specs.declared.Control.{Control}
+use Rattle.bay.specs.declared.Input.{Input}
+use Rattle.bay.proofs.Bay.empty.Reads as empty-reads
+use Rattle.bay.proofs.Bay.reset.Reads as reset-reads
+use Rattle.bay.proofs.Bay.fit.Reads as fit-reads
+use Rattle.bay.proofs.Bay.sampled.Reads as sampled-reads
+use Rattle.bay.proofs.Bay.present.Reads as present-reads
+use Rattle.bay.proofs.Bay.«in_use».Reads as in-use-reads
+use Rattle.bay.proofs.Bay.ticked.Reads as ticked-reads
+use Rattle.bay.proofs.Bay.bstr.Reads as bstr-reads
+use Rattle.bay.proofs.Bay.bcer.Reads as bcer-reads
+use Rattle.bay.proofs.Bay.«with_bstr».Reads as with-bstr-reads
+use Rattle.bay.proofs.Bay.controlled.Reads as controlled-reads
+use Rattle.bay.proofs.Control.of.Reads as control-of-reads
+use Rattle.bay.proofs.Bay.outputs.Reads as outputs-reads
+use Rattle.bay.proofs.Bay.interrupt.Reads as interrupt-reads
+use Rattle.bay.proofs.debounce.debounced.Reads as debounced-reads
+use Rattle.bay.proofs.bits.has.Reads as has-reads
+use Rattle.bay.proofs.bits.put.Reads as put-reads
+
+pub empty-determined : (r s : Bay) → empty-reads.Post tt tt r tt → empty-reads.Post tt tt s tt → r ≡ s
+empty-determined r s p q = p ∙ sym q
+
+pub reset-determined : (levels : ℕ) (lock : Bool) (r s : Bay) → reset-reads.Post tt (levels, (lock, tt)) r (levels, (lock, tt)) → reset-reads.Post tt (levels, (lock, tt)) s (levels, (lock, tt)) → r ≡ s
+reset-determined levels lock r s p q = p ∙ sym q
+
+pub fit-determined : (b : Bay) (r s : Bool) → fit-reads.Post tt (b, tt) r (b, tt) → fit-reads.Post tt (b, tt) s (b, tt) → r ≡ s
+fit-determined b r s p q = p ∙ sym q
+
+pub sampled-determined : (b : Bay) (levels : ℕ) (r s : Bay) → sampled-reads.Post tt (b, (levels, tt)) r (b, (levels, tt)) → sampled-reads.Post tt (b, (levels, tt)) s (b, (levels, tt)) → r ≡ s
+sampled-determined b levels r s p q = p ∙ sym q
+
+pub present-determined : (b : Bay) (r s : Bool) → present-reads.Post tt (b, tt) r (b, tt) → present-reads.Post tt (b, tt) s (b, tt) → r ≡ s
+present-determined b r s p q = p ∙ sym q
+
+pub in-use-determined : (b : Bay) (r s : Bool) → in-use-reads.Post tt (b, tt) r (b, tt) → in-use-reads.Post tt (b, tt) s (b, tt) → r ≡ s
+in-use-determined b r s p q = p ∙ sym q
+
+pub ticked-determined : (b : Bay) (r s : Bay) → ticked-reads.Post tt (b, tt) r (b, tt) → ticked-reads.Post tt (b, tt) s (b, tt) → r ≡ s
+ticked-determined b r s p q = p ∙ sym q
+
+pub bstr-determined : (b : Bay) (r s : ℕ) → bstr-reads.Post tt (b, tt) r (b, tt) → bstr-reads.Post tt (b, tt) s (b, tt) → r ≡ s
+bstr-determined b r s p q = p ∙ sym q
+
+pub bcer-determined : (b : Bay) (r s : ℕ) → bcer-reads.Post tt (b, tt) r (b, tt) → bcer-reads.Post tt (b, tt) s (b, tt) → r ≡ s
+bcer-determined b r s p q = p ∙ sym q
+
+pub with-bstr-determined : (b : Bay) (v : ℕ) (r s : Bay) → with-bstr-reads.Post tt (b, (v, tt)) r (b, (v, tt)) → with-bstr-reads.Post tt (b, (v, tt)) s (b, (v, tt)) → r ≡ s
+with-bstr-determined b v r s p q = p ∙ sym q
+
+pub controlled-determined : (b : Bay) (c : Control) (mode : Bool) (ticks : ℕ) (r s : Bay) → controlled-reads.Post tt (b, (c, (mode, (ticks, tt)))) r (b, (c, (mode, (ticks, tt)))) → controlled-reads.Post tt (b, (c, (mode, (ticks, tt)))) s (b, (c, (mode, (ticks, tt)))) → r ≡ s
+controlled-determined b c mode ticks r s p q = p ∙ sym q
+
+pub control-of-determined : (v : ℕ) (r s : Control) → control-of-reads.Post tt (v, tt) r (v, tt) → control-of-reads.Post tt (v, tt) s (v, tt) → r ≡ s
+control-of-determined v r s p q = p ∙ sym q
+
+pub outputs-determined : (b : Bay) (mode lit : Bool) (r s : ℕ) → outputs-reads.Post tt (b, (mode, (lit, tt))) r (b, (mode, (lit, tt))) → outputs-reads.Post tt (b, (mode, (lit, tt))) s (b, (mode, (lit, tt))) → r ≡ s
+outputs-determined b mode lit r s p q = p ∙ sym q
+
+pub interrupt-determined : (b : Bay) (r s : Bool) → interrupt-reads.Post tt (b, tt) r (b, tt) → interrupt-reads.Post tt (b, tt) s (b, tt) → r ≡ s
+interrupt-determined b r s p q = p ∙ sym q
+
+pub debounced-determined : (length : ℕ) (level accepted : Bool) (n : ℕ) (r s : Input) → debounced-reads.Post tt (length, (level, (accepted, (n, tt)))) r (length, (level, (accepted, (n, tt)))) → debounced-reads.Post tt (length, (level, (accepted, (n, tt)))) s (length, (level, (accepted, (n, tt)))) → r ≡ s
+debounced-determined length level accepted n r s p q = p ∙ sym q
+
+pub has-determined : (v weight : ℕ) (r s : Bool) → has-reads.Post tt (v, (weight, tt)) r (v, (weight, tt)) → has-reads.Post tt (v, (weight, tt)) s (v, (weight, tt)) → r ≡ s
+has-determined v weight r s p q = p ∙ sym q
+
+pub put-determined : (on : Bool) (weight : ℕ) (r s : ℕ) → put-reads.Post tt (on, (weight, tt)) r (on, (weight, tt)) → put-reads.Post tt (on, (weight, tt)) s (on, (weight, tt)) → r ≡ s
+put-determined on weight r s p q = p .0 ∙ sym (q .0)

@@ -1,0 +1,138 @@
+-- A fit bay stays fit, whatever happens to it: each number of the record is one of those that a rule picks from, and all of these
+-- are in range. Assumes nothing.
+use Prim.Native.Nat.{ℕ, _+_, _≤_, _<_}
+use native.Mathlib.Omega.{arith}
+use mathlib.Core.Path.{_≡_, refl}
+use mathlib.Core.Bool.{Bool, true, false, not, cond, _&&_, Bool·beq, and-eq-true-iff}
+use mathlib.Core.Logic.{_↔_}
+use lib.Dec.{ltb, eqb}
+use borrow.Author.Tests.{lt-ltb, le-leb, ltb-true, leb-true, leb-false}
+use Rattle.bay.specs.Record.{N1394, NUSB, NREMREQ, TICKS, EMPTY, INSERTED, REMOVAL-REQUESTED, REMOVAL-ALLOWED, count, present, emptyBay, resetBay, bayFit}
+use Rattle.bay.specs.Debounce.{differs, settles, debounce, restart, sampledBay}
+use Rattle.bay.specs.Moves.{input, leaves, inUse, stateAfter, movedBay, tickedBay}
+use Rattle.bay.specs.Registers.{bstrWritten, asks, requestWritten, stateWritten, pulseWritten, controlledBay}
+use Rattle.bay.specs.declared.Bay.{Bay}
+use Rattle.bay.specs.declared.Control.{Control}
+use Rattle.bay.proofs.Taut.{pick}
+
+-- The parts of fitness.
+pub record Fits (b : Bay) : Type 0 where
+  pub n1394 : count b N1394 < TICKS
+  pub nusb : count b NUSB < TICKS
+  pub nremreq : count b NREMREQ < TICKS
+  pub in-state : b .state ≤ REMOVAL-ALLOWED
+  pub asked : b .request ≤ REMOVAL-ALLOWED
+  pub pulsed : b .pulse ≤ 200
+
+pub fit-parts : (b : Bay) → bayFit b ≡ true ↔ Fits b
+unfolding bayFit
+fit-parts b = (parts, λ f. rw (lt-ltb _ _ (f .n1394), lt-ltb _ _ (f .nusb), lt-ltb _ _ (f .nremreq), le-leb _ _ (f .in-state), le-leb _ _ (f .asked), le-leb _ _ (f .pulsed)))
+  where
+    parts : bayFit b ≡ true → Fits b
+    parts h =
+        let five = and-eq-true-iff _ _ .0 h in
+        let four = and-eq-true-iff _ _ .0 (five .0) in
+        let three = and-eq-true-iff _ _ .0 (four .0) in
+        let two = and-eq-true-iff _ _ .0 (three .0) in
+        let one = and-eq-true-iff _ _ .0 (two .0) in
+        record {
+          n1394 = ltb-true _ _ (one .0);
+          nusb = ltb-true _ _ (one .1);
+          nremreq = ltb-true _ _ (two .1);
+          in-state = leb-true _ _ (three .1);
+          asked = leb-true _ _ (four .1);
+          pulsed = leb-true _ _ (five .1);
+        }
+
+-- A count stays below the ticks that accept a level, whatever its input does.
+counts-on : (n : ℕ) (l a : Bool) (c : ℕ) → 0 < n → c < n → debounce n l a c .count < n
+unfolding debounce
+counts-on n l a c p h =
+    pick (λ k. k < n) (settles n l a c) (λ _. p)
+    (λ s. pick (λ k. k < n) (differs l a) (λ d. omega (arith, leb-false n (c + 1) (rw d at s))) (λ _. h))
+
+restarts : (l a : Bool) (c : ℕ) → c < TICKS → restart l a c < TICKS
+unfolding restart
+restarts l a c h = pick (λ k. k < TICKS) (Bool·beq l a) (λ _. omega arith) (λ _. h)
+
+-- A request that is stored is a state.
+asked-is-state : (c : Control) → asks c ≡ true → c .request ≤ REMOVAL-ALLOWED
+unfolding asks
+asked-is-state c h = leb-true _ _ (and-eq-true-iff (ltb EMPTY (c .request)) _ .0 h .1)
+
+-- Where a move's first answer is a state, its answer is one.
+moves-to-state :
+    (first second third : Bool) (x s : ℕ) → (first ≡ true → x ≤ REMOVAL-ALLOWED) → s ≤ REMOVAL-ALLOWED
+    → cond first x (cond second INSERTED (cond third REMOVAL-REQUESTED s)) ≤ REMOVAL-ALLOWED
+moves-to-state true second third x s f h = f refl
+moves-to-state false true third x s f h = omega arith
+moves-to-state false false true x s f h = omega arith
+moves-to-state false false false x s f h = h
+
+state-after-fits : (b : Bay) (gone come press : Bool) → b .state ≤ REMOVAL-ALLOWED → stateAfter b gone come press ≤ REMOVAL-ALLOWED
+unfolding stateAfter
+state-after-fits b gone come press h =
+    moves-to-state gone (come && b .«devstschg_en») (press && b .«remreq_en» && not (b .«remreq_sts») && inUse b) EMPTY (b .state)
+    (λ _. omega arith) h
+
+state-written-fits : (c : Control) (device : Bool) (b : Bay) → b .state ≤ REMOVAL-ALLOWED → stateWritten c device b ≤ REMOVAL-ALLOWED
+unfolding stateWritten
+state-written-fits c device b h =
+    moves-to-state (asks c && device) (c .«devstschg_en» && not (b .«devstschg_en») && eqb (b .state) EMPTY && device)
+    (c .«remreq_en» && not (b .«remreq_en») && b .«remreq_sts» && inUse b) (c .request) (b .state)
+    (λ a. asked-is-state c (and-eq-true-iff (asks c) device .0 a .0)) h
+
+pub empty-fit : bayFit emptyBay ≡ true
+unfolding bayFit emptyBay
+empty-fit = refl
+
+pub reset-fit : (levels : ℕ) (lock : Bool) → bayFit (resetBay levels lock) ≡ true
+unfolding bayFit resetBay
+reset-fit levels lock = refl
+
+pub sampled-fit : (levels : ℕ) (b : Bay) → bayFit b ≡ true → bayFit (sampledBay levels b) ≡ true
+unfolding sampledBay
+sampled-fit levels b h =
+    let f = fit-parts b .0 h in
+    fit-parts (sampledBay levels b) .1
+    record {
+      n1394 = restarts _ _ _ (f .n1394);
+      nusb = restarts _ _ _ (f .nusb);
+      nremreq = restarts _ _ _ (f .nremreq);
+      in-state = f .in-state;
+      asked = f .asked;
+      pulsed = f .pulsed;
+    }
+
+pub ticked-fit : (b : Bay) → bayFit b ≡ true → bayFit (tickedBay b) ≡ true
+unfolding tickedBay movedBay
+ticked-fit b h =
+    let f = fit-parts b .0 h in
+    fit-parts (tickedBay b) .1
+    record {
+      n1394 = counts-on _ _ _ _ (omega arith) (f .n1394);
+      nusb = counts-on _ _ _ _ (omega arith) (f .nusb);
+      nremreq = counts-on _ _ _ _ (omega arith) (f .nremreq);
+      in-state = state-after-fits b _ _ _ (f .in-state);
+      asked = pick (λ r. r ≤ REMOVAL-ALLOWED) {m = 0} (leaves b (input b N1394) (input b NUSB)) (λ _. omega arith) (λ _. f .asked);
+      pulsed = omega arith;
+    }
+
+pub bstr-written-fit : (v : ℕ) (b : Bay) → bayFit b ≡ true → bayFit (bstrWritten v b) ≡ true
+unfolding bayFit bstrWritten
+bstr-written-fit v b h = h
+
+-- A pulse is as long as LETR's ticks at most, so these are bounded too.
+pub controlled-fit : (c : Control) (mode : Bool) (ticks : ℕ) (b : Bay) → ticks ≤ 200 → bayFit b ≡ true → bayFit (controlledBay c mode ticks b) ≡ true
+unfolding controlledBay requestWritten pulseWritten
+controlled-fit c mode ticks b l h =
+    let f = fit-parts b .0 h in
+    fit-parts (controlledBay c mode ticks b) .1
+    record {
+      n1394 = f .n1394;
+      nusb = f .nusb;
+      nremreq = f .nremreq;
+      in-state = state-written-fits c (present b) b (f .in-state);
+      asked = pick (λ r. r ≤ REMOVAL-ALLOWED) (asks c) (asked-is-state c) (λ _. f .asked);
+      pulsed = pick (λ p. p ≤ 200) (mode && b .«lock_ctl» && not (c .«lock_ctl»)) (λ _. l) (λ _. f .pulsed);
+    }

@@ -1,0 +1,209 @@
+-- What the rules of a bay come to (document 01, "Registers" and "Bay moves"): the theorems that others cite, and the readings that
+-- the paper shuts out. Each rewrites a rule by what is known of its tests. Assumes nothing.
+use Prim.Native.Nat.{ℕ, zero, suc, _^_, _<_, _≤_, zero-le}
+use native.Mathlib.Omega.{arith}
+use native.Mathlib.Nat.{le-refl}
+use mathlib.Core.Path.{_≡_, refl, sym, _∙_}
+use mathlib.Core.Logic.{_↔_, _⊎_, inl, inr}
+use mathlib.Core.Bool.{Bool, true, false, not, cond, _&&_, and-eq-true-iff, and-true, and-false, and-not-self, not-and-self, or-true}
+use borrow.Author.Tests.{lt-ltb, le-leb, lt-leb}
+use Rattle.bay.specs.Bits.{put}
+use Rattle.bay.specs.Record.{N1394, NUSB, NREMREQ, EMPTY, ENABLED, REMOVAL-REQUESTED, REMOVAL-ALLOWED, level, acceptedLevel, count, present}
+use Rattle.bay.specs.Debounce.{differs, sampledBay}
+use Rattle.bay.specs.Moves.{input, leaves, pressed, presentAfter, inUse, stateAfter, movedBay, tickedBay}
+use Rattle.bay.specs.Registers.{bstrOf, bcerOf, asks, stateWritten, requestWritten, controlledBay}
+use Rattle.bay.specs.Outputs.{lockPin, green, yellow, drives}
+use Rattle.bay.specs.Held.{afterTicks, tickedFor}
+use Rattle.bay.specs.Sound.{Sound}
+use Rattle.bay.specs.declared.Bay.{Bay}
+use Rattle.bay.specs.declared.Control.{Control}
+use Rattle.bay.proofs.Length.{counting, settledAt, counts-up, settles-last, follows, sampled-from-0}
+
+-- ---- power
+
+-- After a write PWR_CTL is 1 exactly if it was written 1 with LOCK_CTL written 1 and a device present.
+pub power-needs-lock-and-device :
+    (c : Control) (mode : Bool) (ticks : ℕ) (b : Bay)
+    → (controlledBay c mode ticks b .«pwr_ctl» ≡ true) ↔ ((c .«pwr_ctl» ≡ true) × (c .«lock_ctl» ≡ true) × (present b ≡ true))
+unfolding controlledBay
+power-needs-lock-and-device c mode ticks b = (parts, λ h. rw (h .0, h .1, h .2))
+  where
+    parts : (c .«pwr_ctl» && c .«lock_ctl» && present b) ≡ true → (c .«pwr_ctl» ≡ true) × (c .«lock_ctl» ≡ true) × (present b ≡ true)
+    parts h =
+        let both = and-eq-true-iff (c .«pwr_ctl» && c .«lock_ctl») (present b) .0 h in
+        let written = and-eq-true-iff (c .«pwr_ctl») (c .«lock_ctl») .0 (both .0) in
+        (written .0, written .1, both .1)
+
+-- ---- a device that leaves, and one that stays
+
+-- The device after a TICK, as the rules see it.
+present-after : (b : Bay) → present (tickedBay b) ≡ presentAfter (input b N1394) (input b NUSB)
+unfolding tickedBay movedBay present
+present-after b = refl
+
+-- Empty, stored request 0, PWR_CTL 0, and LOCK_CTL as it was.
+pub record Removed (before after : Bay) : Type 0 where
+  pub emptied : after .state ≡ EMPTY
+  pub request-gone : after .request ≡ 0
+  pub power-off : after .«pwr_ctl» ≡ false
+  pub lock-kept : after .«lock_ctl» ≡ before .«lock_ctl»
+
+removed : (b : Bay) → leaves b (input b N1394) (input b NUSB) ≡ true → Removed b (tickedBay b)
+unfolding tickedBay movedBay stateAfter
+removed b l = record { emptied = rw l; request-gone = rw l; power-off = rw l (and-false (b .«pwr_ctl»)); lock-kept = refl }
+
+-- A TICK in which the device leaves.
+pub removal : (b : Bay) → present b ≡ true → present (tickedBay b) ≡ false → Removed b (tickedBay b)
+removal b p q = removed b (rw (p, ← (present-after b), q))
+
+-- A TICK in which the device doesn't leave keeps PWR_CTL.
+stays : (b : Bay) → (present b ≡ true → present (tickedBay b) ≡ true) → leaves b (input b N1394) (input b NUSB) ≡ false
+stays b h = rw (← (present-after b)) (go (present b) (present (tickedBay b)) h)
+  where
+    go : (p q : Bool) → (p ≡ true → q ≡ true) → (p && not q) ≡ false
+    go true q h = rw (h refl)
+    go false q h = refl
+
+power-kept : (b : Bay) → leaves b (input b N1394) (input b NUSB) ≡ false → tickedBay b .«pwr_ctl» ≡ b .«pwr_ctl»
+unfolding tickedBay movedBay
+power-kept b l = rw l (and-true (b .«pwr_ctl»))
+
+pub tick-keeps-power : (b : Bay) → (present b ≡ true → present (tickedBay b) ≡ true) → tickedBay b .«pwr_ctl» ≡ b .«pwr_ctl»
+tick-keeps-power b h = power-kept b (stays b h)
+
+-- A powered bay that is Enabled after a TICK is still powered.
+pub enabled-keeps-power : (b : Bay) → b .«pwr_ctl» ≡ true → tickedBay b .state ≡ ENABLED → tickedBay b .«pwr_ctl» ≡ true
+enabled-keeps-power b w e = go (leaves b (input b N1394) (input b NUSB)) refl
+  where
+    go : (t : Bool) → leaves b (input b N1394) (input b NUSB) ≡ t → tickedBay b .«pwr_ctl» ≡ true
+    go true l = absurd (omega (arith, removed b l .emptied))
+    go false l = power-kept b l ∙ w
+
+-- ---- what a TICK makes of the state
+
+-- The accepted press of this TICK, if there is one, moves the bay.
+abbrev pub pressMoves : Bay → Bool
+pressMoves b = pressed (input b NREMREQ) && b .«remreq_en» && not (b .«remreq_sts») && inUse b
+
+-- A device that stays moves a bay by a press only: the state is otherwise as it was, and so are the stored request and PWR_CTL.
+pub record Stayed (before after : Bay) : Type 0 where
+  pub state-kept : after .state ≡ cond (pressMoves before) REMOVAL-REQUESTED (before .state)
+  pub request-kept : after .request ≡ before .request
+  pub power-kept : after .«pwr_ctl» ≡ before .«pwr_ctl»
+
+stayed : (b : Bay) → present (tickedBay b) ≡ present b → Stayed b (tickedBay b)
+unfolding tickedBay movedBay stateAfter
+stayed b s =
+    let q = sym (present-after b) ∙ s in
+    record { state-kept = rw (q, and-not-self, not-and-self); request-kept = rw (q, and-not-self); power-kept = rw (q, and-not-self) (and-true (b .«pwr_ctl»)) }
+
+either : (i : ℕ) → i < 2 → (b : Bay) → acceptedLevel b i ≡ false → present b ≡ true
+unfolding present
+either zero l b a = rw a
+either (suc zero) l b a = rw a (or-true (not (acceptedLevel b N1394)))
+either (suc (suc i)) l b a = absurd (omega arith)
+
+-- One of two presence bits still asserted is a device that stays, whatever the other bit does: the bay isn't Empty by that.
+pub one-of-two : (b : Bay) (i : ℕ) → i < 2 → present b ≡ true → acceptedLevel (tickedBay b) i ≡ false → Stayed b (tickedBay b)
+one-of-two b i l p a = stayed b (either i l (tickedBay b) a ∙ sym p)
+
+-- With REMREQ_STS set already an accepted press makes no move: REMREQ_STS with REMREQ_EN isn't a level.
+pub press-once : (b : Bay) → b .«remreq_sts» ≡ true → present (tickedBay b) ≡ present b → tickedBay b .state ≡ b .state
+press-once b r s = stayed b s .state-kept ∙ rw (r, and-false)
+
+-- ---- requests
+
+-- A request of 0 or 5-7 keeps the stored one.
+pub request-0-kept :
+    (c : Control) (mode : Bool) (ticks : ℕ) (b : Bay) → (c .request ≡ 0) ⊎ (REMOVAL-ALLOWED < c .request) → controlledBay c mode ticks b .request ≡ b .request
+unfolding controlledBay requestWritten asks
+request-0-kept c mode ticks b (inl z) = rw z
+request-0-kept c mode ticks b (inr l) = rw (lt-leb (c .request) REMOVAL-ALLOWED l, and-false)
+
+-- A request 1-4 is stored, and with a device present it is the state, whatever else is written.
+asks-to : (c : Control) → 0 < c .request → c .request ≤ REMOVAL-ALLOWED → asks c ≡ true
+unfolding asks
+asks-to c l h = rw (lt-ltb EMPTY (c .request) l, le-leb (c .request) REMOVAL-ALLOWED h)
+
+pub request-stored :
+    (c : Control) (mode : Bool) (ticks : ℕ) (b : Bay) → 0 < c .request → c .request ≤ REMOVAL-ALLOWED → controlledBay c mode ticks b .request ≡ c .request
+unfolding controlledBay requestWritten
+request-stored c mode ticks b l h = rw (asks-to c l h)
+
+pub request-decides :
+    (c : Control) (mode : Bool) (ticks : ℕ) (b : Bay)
+    → 0 < c .request → c .request ≤ REMOVAL-ALLOWED → present b ≡ true → controlledBay c mode ticks b .state ≡ c .request
+unfolding controlledBay stateWritten
+request-decides c mode ticks b l h p = rw (asks-to c l h, p)
+
+-- It doesn't bounce back in the next TICK, though REMREQ_STS and REMREQ_EN are set.
+pub request-stands :
+    (c : Control) (mode : Bool) (ticks : ℕ) (b : Bay)
+    → 0 < c .request → c .request ≤ REMOVAL-ALLOWED → present b ≡ true → b .«remreq_sts» ≡ true
+    → present (tickedBay (controlledBay c mode ticks b)) ≡ true → tickedBay (controlledBay c mode ticks b) .state ≡ c .request
+unfolding controlledBay present
+request-stands c mode ticks b l h p r q = press-once (controlledBay c mode ticks b) r (q ∙ sym p) ∙ request-decides c mode ticks b l h p
+
+-- ---- bytes
+
+-- Bit i adds 2 ^ i at most.
+put-most : (i : ℕ) (on : Bool) → put i on ≤ 2 ^ i
+put-most i true = le-refl (2 ^ i)
+put-most i false = zero-le
+
+pub bstr-byte : (b : Bay) → bstrOf b < 256
+unfolding bstrOf
+bstr-byte b =
+    omega (
+      arith,
+      put-most 7 (not (b .«n_sl»)),
+      put-most 3 (b .«remreq_sts»),
+      put-most 2 (b .devstschg),
+      put-most 1 (not (acceptedLevel b N1394)),
+      put-most 0 (not (acceptedLevel b NUSB)),
+    )
+
+pub bcer-byte : (b : Bay) → bcerOf b < 256
+unfolding bcerOf
+bcer-byte b =
+    omega (
+      arith,
+      put-most 7 (b .«lock_ctl»),
+      put-most 3 (b .«remreq_en»),
+      put-most 2 (b .«devstschg_en»),
+      put-most 1 (b .«remevtwak_en»),
+      put-most 0 (b .«pwr_ctl»),
+    )
+
+pub drives-nibble : (mode lit : Bool) (b : Bay) → drives mode lit b < 16
+unfolding drives
+drives-nibble mode lit b =
+    omega (arith, put-most 3 (b .«pwr_ctl»), put-most 2 (lockPin mode b), put-most 1 (green lit b), put-most 0 (yellow lit b))
+
+-- ---- debounce
+
+-- An input whose level differs from the accepted one, counted from 0, settles at exactly its length of ticks: before, the accepted
+-- level is the old one and the count is the ticks so far; then the level is accepted and the count is 0.
+pub debounce-length :
+    (length : ℕ) (level accepted : Bool) → 0 < length → differs level accepted ≡ true
+    → ((k : ℕ) → k < length → afterTicks length level (counting accepted 0) k ≡ counting accepted k)
+    × (afterTicks length level (counting accepted 0) length ≡ settledAt level)
+debounce-length zero level accepted l d = absurd (omega arith)
+debounce-length (suc k) level accepted l d = (counts-up (suc k) level accepted d, settles-last k level accepted d)
+
+-- So in a bay: an input whose level differs, counted from 0, has its old accepted level through nine ticks and the new one at the tenth.
+pub ten-ticks :
+    (b : Bay) (i : ℕ) → i < 3 → differs (level b i) (acceptedLevel b i) ≡ true → count b i ≡ 0
+    → ((k : ℕ) → k < 10 → acceptedLevel (tickedFor k b) i ≡ acceptedLevel b i) × (acceptedLevel (tickedFor 10 b) i ≡ level b i)
+ten-ticks b i l d z =
+    let exactly = debounce-length 10 (level b i) (acceptedLevel b i) (omega arith) d in
+    (λ k h. follows k b i l .accepts ∙ rw (z, exactly .0 k h), follows 10 b i l .accepts ∙ rw (z, exactly .1))
+
+-- In a sound bay an input at rest that PINS changes takes all ten ticks, whatever it did before: ticks before a rest don't count.
+pub ten-ticks-from-rest :
+    (levels : ℕ) (b : Bay) (i : ℕ) → Sound b → i < 3 → level b i ≡ acceptedLevel b i
+    → differs (level (sampledBay levels b) i) (acceptedLevel b i) ≡ true
+    → ((k : ℕ) → k < 10 → acceptedLevel (tickedFor k (sampledBay levels b)) i ≡ acceptedLevel b i)
+    × (acceptedLevel (tickedFor 10 (sampledBay levels b)) i ≡ level (sampledBay levels b) i)
+unfolding sampledBay
+ten-ticks-from-rest levels b i s l r d = ten-ticks (sampledBay levels b) i l d (sampled-from-0 levels b i l (s .still i r))

@@ -1,0 +1,42 @@
+-- Reasoning by cases on Bools: what holds of both answers of a test holds of the answer picked, and a statement over n Bools that
+-- computes to true at every assignment holds at each. Assumes nothing.
+use Prim.Native.Nat.{ℕ, zero, suc}
+use mathlib.Core.Path.{_≡_, refl}
+use mathlib.Core.Bool.{Bool, true, false, cond, _&&_, and-eq-true-iff, false≢true}
+
+-- What holds of the first answer where the test passes, and of the second where it fails, holds of the answer picked.
+pub pick : {A : Type 0} (P : A → Type 0) {m n : A} (t : Bool) → (t ≡ true → P m) → (t ≡ false → P n) → P (cond t m n)
+pick P true p q = p refl
+pick P false p q = q refl
+
+-- A statement over n Bools: it computes to true at every assignment; it holds at each.
+abbrev pub Fun : ℕ → Type 0
+Fun zero = Bool
+Fun (suc n) = Bool → Fun n
+
+abbrev pub All : (n : ℕ) → Fun n → Bool
+All zero p = p
+All (suc n) f = All n (f true) && All n (f false)
+
+abbrev pub Holds : (n : ℕ) → Fun n → Type 0
+Holds zero p = p ≡ true
+Holds (suc n) f = (x : Bool) → Holds n (f x)
+
+pub taut : (n : ℕ) (f : Fun n) → All n f ≡ true → Holds n f
+taut zero p h = h
+taut (suc n) f h =
+    let both = and-eq-true-iff (All n (f true)) (All n (f false)) .0 h in
+    elim [ true ↦ taut n (f true) (both .0) | false ↦ taut n (f false) (both .1) ]
+
+-- Implication between tests, how it is shown and how it is used.
+abbrev pub implies : Bool → Bool → Bool
+implies true q = q
+implies false q = true
+
+pub suppose : (p q : Bool) → (p ≡ true → q ≡ true) → implies p q ≡ true
+suppose true q f = f refl
+suppose false q f = refl
+
+pub apply : (p q : Bool) → implies p q ≡ true → p ≡ true → q ≡ true
+apply true q h t = h
+apply false q h t = absurd (false≢true t)
