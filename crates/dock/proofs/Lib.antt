@@ -1,1 +1,5 @@
 pub mod Choice
+pub mod Bays
+pub mod Kept
+pub mod Fit
+pub mod Sound

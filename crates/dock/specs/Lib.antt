@@ -4,3 +4,6 @@ pub mod Registers
 pub mod Events
 pub mod Answers
 pub mod Step
+pub mod Run
+pub mod Sound
+pub mod Kept

@@ -56,8 +56,12 @@ withBays bs s =
       bays = bs;
     }
 
+-- The same controller with this bay as bay 0, or else as bay 1.
+abbrev pub placed : Bool → Bay → Controller → List Bay
+placed first b s = cond first (b ∷ bay1 s ∷ []) (bay0 s ∷ b ∷ [])
+
 unfoldable pub withBay : ℕ → Bay → Controller → Controller
-withBay i b s = withBays (cond (eqb i 0) (b ∷ bay1 s ∷ []) (bay0 s ∷ b ∷ [])) s
+withBay i b s = withBays (placed (eqb i 0) b s) s
 
 -- While the stored count is 1, bay 1 is closed. Counts 0, 2, 3 close nothing.
 unfoldable pub isOpen : Controller → ℕ → Bool
@@ -89,4 +93,5 @@ freshController =
 -- value of its kind.
 unfoldable pub fits : Controller → Bool
 fits s =
-    ltb (s .phase) 200 && leb (s .straps) 15 && leb (s .«lock_time») 3 && leb (s .«bay_count») 3 && bayFit (bay0 s) && bayFit (bay1 s)
+    ltb (s .phase) 200 && leb (s .straps) 15 && leb (s .«lock_time») 3 && leb (s .«bay_count») 3 && bayFit (bayAt s 0)
+    && bayFit (bayAt s 1)

@@ -53,21 +53,24 @@ register s a =
 unfoldable pub readingOf : Controller → ℕ → ℕ
 readingOf s a = cond (s .started) (register s a) 0
 
--- DBCCR: only the first write after a RESET counts, even if it writes 0. Count 1 closes bay 1: the write makes its record empty.
+-- DBCCR stores SECLOCK and the bay count. Count 1 closes bay 1: the write makes its record empty.
+unfoldable pub dbccrStored : ℕ → Controller → Controller
+dbccrStored v s =
+    record {
+        started = s .started;
+        straps = s .straps;
+        «dbccr_written» = true;
+        seclock = bit 4 v;
+        «bay_count» = v % 4;
+        «lock_time» = s .«lock_time»;
+        phase = s .phase;
+        progress = s .progress;
+        bays = bayAt s 0 ∷ cond (eqb (v % 4) 1) emptyBay (bayAt s 1) ∷ []
+    }
+
+-- Only the first write after a RESET counts, even if it writes 0.
 unfoldable pub dbccrWrite : ℕ → Controller → Controller
-dbccrWrite v s =
-    cond (s .«dbccr_written») s
-    (record {
-      started = s .started;
-      straps = s .straps;
-      «dbccr_written» = true;
-      seclock = eqb (v / 16 % 2) 1;
-      «bay_count» = v % 4;
-      «lock_time» = s .«lock_time»;
-      phase = s .phase;
-      progress = s .progress;
-      bays = bayAt s 0 ∷ cond (eqb (v % 4) 1) emptyBay (bayAt s 1) ∷ [];
-    })
+dbccrWrite v s = cond (s .«dbccr_written») s (dbccrStored v s)
 
 -- LETR: bits 1-0 ..
 unfoldable pub letrWrite : ℕ → Controller → Controller

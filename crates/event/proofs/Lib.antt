@@ -1,4 +1,5 @@
 pub mod Rows
 pub mod Bits
 pub mod RoundTrip
+pub mod Straps
 pub mod Theorems
