@@ -3,9 +3,9 @@
 use Prim.Native.Nat.{ℕ, _+_, _≤_, _<_}
 use native.Mathlib.Omega.{arith}
 use mathlib.Core.Path.{_≡_, refl}
-use mathlib.Core.Bool.{Bool, true, false, not, cond, _&&_, Bool·beq, and-eq-true-iff}
+use mathlib.Core.Bool.{Bool, true, false, not, cond, _&&_, Bool·beq, and-eq-true-iff, and-false, false≢true}
 use mathlib.Core.Logic.{_↔_}
-use lib.Dec.{ltb, eqb}
+use lib.Dec.{leb, eqb}
 use borrow.Author.Tests.{lt-ltb, le-leb, ltb-true, leb-true, leb-false}
 use Rattle.bay.specs.Record.{N1394, NUSB, NREMREQ, TICKS, EMPTY, INSERTED, REMOVAL-REQUESTED, REMOVAL-ALLOWED, count, present, emptyBay, resetBay, bayFit}
 use Rattle.bay.specs.Debounce.{differs, settles, debounce, restart, sampledBay}
@@ -26,7 +26,7 @@ pub record Fits (b : Bay) : Type 0 where
 
 pub fit-parts : (b : Bay) → bayFit b ≡ true ↔ Fits b
 unfolding bayFit
-fit-parts b = (parts, λ f. rw (lt-ltb _ _ (f .n1394), lt-ltb _ _ (f .nusb), lt-ltb _ _ (f .nremreq), le-leb _ _ (f .in-state), le-leb _ _ (f .asked), le-leb _ _ (f .pulsed)))
+fit-parts b = (parts, whole)
   where
     parts : bayFit b ≡ true → Fits b
     parts h =
@@ -44,6 +44,17 @@ fit-parts b = (parts, λ f. rw (lt-ltb _ _ (f .n1394), lt-ltb _ _ (f .nusb), lt-
           pulsed = leb-true _ _ (five .1);
         }
 
+    whole : Fits b → bayFit b ≡ true
+    whole f =
+        rw (
+          lt-ltb _ _ (f .n1394),
+          lt-ltb _ _ (f .nusb),
+          lt-ltb _ _ (f .nremreq),
+          le-leb _ _ (f .in-state),
+          le-leb _ _ (f .asked),
+          le-leb _ _ (f .pulsed),
+        )
+
 -- A count stays below the ticks that accept a level, whatever its input does.
 counts-on : (n : ℕ) (l a : Bool) (c : ℕ) → 0 < n → c < n → debounce n l a c .count < n
 unfolding debounce
@@ -51,6 +62,7 @@ counts-on n l a c p h =
     pick (λ k. k < n) (settles n l a c) (λ _. p)
     (λ s. pick (λ k. k < n) (differs l a) (λ d. omega (arith, leb-false n (c + 1) (rw d at s))) (λ _. h))
 
+-- So it does where PINS samples its input.
 restarts : (l a : Bool) (c : ℕ) → c < TICKS → restart l a c < TICKS
 unfolding restart
 restarts l a c h = pick (λ k. k < TICKS) (Bool·beq l a) (λ _. omega arith) (λ _. h)
@@ -58,7 +70,11 @@ restarts l a c h = pick (λ k. k < TICKS) (Bool·beq l a) (λ _. omega arith) (�
 -- A request that is stored is a state.
 asked-is-state : (c : Control) → asks c ≡ true → c .request ≤ REMOVAL-ALLOWED
 unfolding asks
-asked-is-state c h = leb-true _ _ (and-eq-true-iff (ltb EMPTY (c .request)) _ .0 h .1)
+asked-is-state c h = go (leb (c .request) REMOVAL-ALLOWED) refl
+  where
+    go : (t : Bool) → leb (c .request) REMOVAL-ALLOWED ≡ t → c .request ≤ REMOVAL-ALLOWED
+    go true e = leb-true _ _ e
+    go false e = absurd (false≢true (rw (e, and-false) at h))
 
 -- Where a move's first answer is a state, its answer is one.
 moves-to-state :
@@ -69,6 +85,7 @@ moves-to-state false true third x s f h = omega arith
 moves-to-state false false true x s f h = omega arith
 moves-to-state false false false x s f h = h
 
+-- So is the state after a TICK, and after a write.
 state-after-fits : (b : Bay) (gone come press : Bool) → b .state ≤ REMOVAL-ALLOWED → stateAfter b gone come press ≤ REMOVAL-ALLOWED
 unfolding stateAfter
 state-after-fits b gone come press h =
@@ -82,6 +99,7 @@ state-written-fits c device b h =
     (c .«remreq_en» && not (b .«remreq_en») && b .«remreq_sts» && inUse b) (c .request) (b .state)
     (λ a. asked-is-state c (and-eq-true-iff (asks c) device .0 a .0)) h
 
+-- The bays that a closing and RESET make are fit ..
 pub empty-fit : bayFit emptyBay ≡ true
 unfolding bayFit emptyBay
 empty-fit = refl
@@ -90,6 +108,7 @@ pub reset-fit : (levels : ℕ) (lock : Bool) → bayFit (resetBay levels lock) �
 unfolding bayFit resetBay
 reset-fit levels lock = refl
 
+-- .. and each event keeps a bay fit.
 pub sampled-fit : (levels : ℕ) (b : Bay) → bayFit b ≡ true → bayFit (sampledBay levels b) ≡ true
 unfolding sampledBay
 sampled-fit levels b h =

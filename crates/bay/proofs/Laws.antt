@@ -5,7 +5,7 @@ use native.Mathlib.Omega.{arith}
 use native.Mathlib.Nat.{le-refl}
 use mathlib.Core.Path.{_≡_, refl, sym, _∙_}
 use mathlib.Core.Logic.{_↔_, _⊎_, inl, inr}
-use mathlib.Core.Bool.{Bool, true, false, not, cond, _&&_, and-eq-true-iff, and-true, and-false, and-not-self, not-and-self, or-true}
+use mathlib.Core.Bool.{Bool, true, false, not, cond, _&&_, _||_, and-eq-true-iff, and-true, and-false, and-not-self, not-and-self, or-true, or-false}
 use borrow.Author.Tests.{lt-ltb, le-leb, lt-leb}
 use Rattle.bay.specs.Bits.{put}
 use Rattle.bay.specs.Record.{N1394, NUSB, NREMREQ, EMPTY, ENABLED, REMOVAL-REQUESTED, REMOVAL-ALLOWED, level, acceptedLevel, count, present}
@@ -41,7 +41,7 @@ present-after : (b : Bay) → present (tickedBay b) ≡ presentAfter (input b N1
 unfolding tickedBay movedBay present
 present-after b = refl
 
--- Empty, stored request 0, PWR_CTL 0, and LOCK_CTL as it was.
+-- What a removal does: Empty, stored request 0, PWR_CTL 0, and LOCK_CTL as it was.
 pub record Removed (before after : Bay) : Type 0 where
   pub emptied : after .state ≡ EMPTY
   pub request-gone : after .request ≡ 0
@@ -56,7 +56,7 @@ removed b l = record { emptied = rw l; request-gone = rw l; power-off = rw l (an
 pub removal : (b : Bay) → present b ≡ true → present (tickedBay b) ≡ false → Removed b (tickedBay b)
 removal b p q = removed b (rw (p, ← (present-after b), q))
 
--- A TICK in which the device doesn't leave keeps PWR_CTL.
+-- A device that is still there, or wasn't before, doesn't leave ..
 stays : (b : Bay) → (present b ≡ true → present (tickedBay b) ≡ true) → leaves b (input b N1394) (input b NUSB) ≡ false
 stays b h = rw (← (present-after b)) (go (present b) (present (tickedBay b)) h)
   where
@@ -64,10 +64,12 @@ stays b h = rw (← (present-after b)) (go (present b) (present (tickedBay b)) h
     go true q h = rw (h refl)
     go false q h = refl
 
+-- .. and PWR_CTL is kept.
 power-kept : (b : Bay) → leaves b (input b N1394) (input b NUSB) ≡ false → tickedBay b .«pwr_ctl» ≡ b .«pwr_ctl»
 unfolding tickedBay movedBay
 power-kept b l = rw l (and-true (b .«pwr_ctl»))
 
+-- A TICK in which the device doesn't leave keeps PWR_CTL.
 pub tick-keeps-power : (b : Bay) → (present b ≡ true → present (tickedBay b) ≡ true) → tickedBay b .«pwr_ctl» ≡ b .«pwr_ctl»
 tick-keeps-power b h = power-kept b (stays b h)
 
@@ -85,7 +87,8 @@ enabled-keeps-power b w e = go (leaves b (input b N1394) (input b NUSB)) refl
 abbrev pub pressMoves : Bay → Bool
 pressMoves b = pressed (input b NREMREQ) && b .«remreq_en» && not (b .«remreq_sts») && inUse b
 
--- A device that stays moves a bay by a press only: the state is otherwise as it was, and so are the stored request and PWR_CTL.
+-- A bay whose device neither leaves nor arrives is moved by a press only: its state is otherwise as it was, and its stored request and
+-- PWR_CTL are kept.
 pub record Stayed (before after : Bay) : Type 0 where
   pub state-kept : after .state ≡ cond (pressMoves before) REMOVAL-REQUESTED (before .state)
   pub request-kept : after .request ≡ before .request
@@ -97,19 +100,32 @@ stayed b s =
     let q = sym (present-after b) ∙ s in
     record { state-kept = rw (q, and-not-self, not-and-self); request-kept = rw (q, and-not-self); power-kept = rw (q, and-not-self) (and-true (b .«pwr_ctl»)) }
 
+-- Present means accepted 1394 or USB.
 either : (i : ℕ) → i < 2 → (b : Bay) → acceptedLevel b i ≡ false → present b ≡ true
 unfolding present
 either zero l b a = rw a
 either (suc zero) l b a = rw a (or-true (not (acceptedLevel b N1394)))
 either (suc (suc i)) l b a = absurd (omega arith)
 
--- One of two presence bits still asserted is a device that stays, whatever the other bit does: the bay isn't Empty by that.
+-- One of the two presence bits, inputs 0 and 1, still asserted is a device that stays, whatever the other bit does: the bay doesn't go
+-- Empty by that.
 pub one-of-two : (b : Bay) (i : ℕ) → i < 2 → present b ≡ true → acceptedLevel (tickedBay b) i ≡ false → Stayed b (tickedBay b)
 one-of-two b i l p a = stayed b (either i l (tickedBay b) a ∙ sym p)
+
+-- An accepted press sets REMREQ_STS, in any state.
+pub pressed-sets : (b : Bay) → tickedBay b .«remreq_sts» ≡ (b .«remreq_sts» || pressed (input b NREMREQ))
+unfolding tickedBay movedBay
+pressed-sets b = refl
 
 -- With REMREQ_STS set already an accepted press makes no move: REMREQ_STS with REMREQ_EN isn't a level.
 pub press-once : (b : Bay) → b .«remreq_sts» ≡ true → present (tickedBay b) ≡ present b → tickedBay b .state ≡ b .state
 press-once b r s = stayed b s .state-kept ∙ rw (r, and-false)
+
+-- A button that is held is one press: where its level isn't accepted in this TICK, it moves nothing and sets nothing.
+pub held-button :
+    (b : Bay) → input b NREMREQ .settled ≡ false → present (tickedBay b) ≡ present b
+    → (tickedBay b .state ≡ b .state) × (tickedBay b .«remreq_sts» ≡ b .«remreq_sts»)
+held-button b h s = (stayed b s .state-kept ∙ rw h, pressed-sets b ∙ rw h (or-false (b .«remreq_sts»)))
 
 -- ---- requests
 
@@ -151,6 +167,7 @@ put-most : (i : ℕ) (on : Bool) → put i on ≤ 2 ^ i
 put-most i true = le-refl (2 ^ i)
 put-most i false = zero-le
 
+-- Each register of every bay reads as a byte, and its outputs are four bits.
 pub bstr-byte : (b : Bay) → bstrOf b < 256
 unfolding bstrOf
 bstr-byte b =

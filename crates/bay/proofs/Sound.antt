@@ -118,19 +118,17 @@ still-restarted true false n e = absurd (true≢false e)
 still-restarted false true n e = absurd (false≢true e)
 still-restarted false false n e = refl
 
+-- An input whose level differed has accepted it, with a count of 0, or differs still.
+settled-or-apart : (l : Bool) (n : ℕ) (t : Bool) → l ≡ cond t l (not l) → cond t 0 n ≡ 0
+settled-or-apart l n true e = refl
+settled-or-apart true n false e = absurd (true≢false e)
+settled-or-apart false n false e = absurd (false≢true e)
+
 still-debounced : (length : ℕ) (l a : Bool) (n : ℕ) → (l ≡ a → n ≡ 0) → l ≡ debounce length l a n .accepted → debounce length l a n .count ≡ 0
 unfolding debounce
 still-debounced length true true n h e = h refl
-still-debounced length true false n h e = go (leb length (n + 1)) e
-  where
-    go : (t : Bool) → true ≡ cond t true false → cond t 0 (n + 1) ≡ 0
-    go true e = refl
-    go false e = absurd (true≢false e)
-still-debounced length false true n h e = go (leb length (n + 1)) e
-  where
-    go : (t : Bool) → false ≡ cond t false true → cond t 0 (n + 1) ≡ 0
-    go true e = refl
-    go false e = absurd (false≢true e)
+still-debounced length true false n h e = settled-or-apart true (n + 1) (leb length (n + 1)) e
+still-debounced length false true n h e = settled-or-apart false (n + 1) (leb length (n + 1)) e
 still-debounced length false false n h e = h refl
 
 -- A bay keeps three counts, and none past them.
@@ -143,16 +141,6 @@ of-three P p0 p1 p2 past (suc (suc (suc i))) = past i
 
 -- ---- the bays that RESET and each event make
 
-pub empty-sound : Sound emptyBay
-unfolding emptyBay present
-empty-sound =
-    record {
-      powered = λ w. absurd (false≢true w);
-      held = λ n. absurd (n refl);
-      waiting = λ d e. refl;
-      still = λ i _. of-three (λ i n. n ≡ 0) refl refl refl (λ i. refl) i;
-    }
-
 pub reset-sound : (levels : ℕ) (lock : Bool) → Sound (resetBay levels lock)
 unfolding resetBay present
 reset-sound levels lock =
@@ -162,6 +150,11 @@ reset-sound levels lock =
       waiting = λ d e. refl;
       still = λ i _. of-three (λ i n. n ≡ 0) refl refl refl (λ i. refl) i;
     }
+
+-- An empty bay is one that RESET makes of levels 1.
+pub empty-sound : Sound emptyBay
+unfolding emptyBay resetBay
+empty-sound = reset-sound 15 false
 
 pub sampled-sound : (levels : ℕ) (b : Bay) → Sound b → Sound (sampledBay levels b)
 unfolding sampledBay present

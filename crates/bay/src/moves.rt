@@ -18,7 +18,7 @@ impl Bay {
     }
 
     // A press can ask for the device in these states.
-    pub fn in_use(self) -> bool
+    pub(crate) fn in_use(self) -> bool
         ensures { λ r. ⌜ r ≡ inUse self ⌝ }
     {
         (self.state == Bay::INSERTED) | (self.state == Bay::ENABLED)

@@ -45,11 +45,11 @@ fit-parts s = (parts, λ f. rw (lt-ltb _ _ (f .phase), le-leb _ _ (f .straps), l
         let d = and-eq-true-iff _ _ .0 (c .0) in
         let e = and-eq-true-iff _ _ .0 (d .0) in
         record {
-            phase = ltb-true _ _ (e .0);
-            straps = leb-true _ _ (e .1);
-            lock-time = leb-true _ _ (d .1);
-            bay-count = leb-true _ _ (c .1);
-            bays = both s (b .1) (a .1)
+          phase = ltb-true _ _ (e .0);
+          straps = leb-true _ _ (e .1);
+          lock-time = leb-true _ _ (d .1);
+          bay-count = leb-true _ _ (c .1);
+          bays = both s (b .1) (a .1);
         }
 
 -- ---- each rule
@@ -83,22 +83,22 @@ pins-parts : (levels : ℕ) (s : Controller) → Fits s → Fits (pinsTo levels 
 unfolding pinsTo bayAt
 pins-parts levels s f =
     record {
-        phase = f .phase;
-        straps = f .straps;
-        lock-time = f .lock-time;
-        bay-count = f .bay-count;
-        bays = both (pinsTo levels s) (sampled-at s 0 _ (f .bays 0)) (sampled-at s 1 _ (f .bays 1))
+      phase = f .phase;
+      straps = f .straps;
+      lock-time = f .lock-time;
+      bay-count = f .bay-count;
+      bays = both (pinsTo levels s) (sampled-at s 0 _ (f .bays 0)) (sampled-at s 1 _ (f .bays 1));
     }
 
 tick-parts : (s : Controller) → Fits s → Fits (tickTo s)
 unfolding tickTo bayAt
 tick-parts s f =
     record {
-        phase = phase-on (s .phase) (f .phase);
-        straps = f .straps;
-        lock-time = f .lock-time;
-        bay-count = f .bay-count;
-        bays = both (tickTo s) (ticked-at s 0 (f .bays 0)) (ticked-at s 1 (f .bays 1))
+      phase = phase-on (s .phase) (f .phase);
+      straps = f .straps;
+      lock-time = f .lock-time;
+      bay-count = f .bay-count;
+      bays = both (tickTo s) (ticked-at s 0 (f .bays 0)) (ticked-at s 1 (f .bays 1));
     }
 
 -- ---- writes
@@ -114,22 +114,22 @@ with-bay : (i : ℕ) (b : Bay) (s : Controller) → bayFit b ≡ true → Fits s
 unfolding withBay
 with-bay i b s h f =
     record {
-        phase = f .phase;
-        straps = f .straps;
-        lock-time = f .lock-time;
-        bay-count = f .bay-count;
-        bays = λ j. put-each (λ x. bayFit x ≡ true) i b s h j (f .bays j)
+      phase = f .phase;
+      straps = f .straps;
+      lock-time = f .lock-time;
+      bay-count = f .bay-count;
+      bays = λ j. put-each (λ x. bayFit x ≡ true) i b s h j (f .bays j);
     }
 
 stored-parts : (v : ℕ) (s : Controller) → Fits s → Fits (dbccrStored v s)
 unfolding dbccrStored bayAt
 stored-parts v s f =
     record {
-        phase = f .phase;
-        straps = f .straps;
-        lock-time = f .lock-time;
-        bay-count = omega arith;
-        bays = both (dbccrStored v s) (f .bays 0) (pick (λ b. bayFit b ≡ true) (eqb (v % 4) 1) (λ e. empty-fit) (λ e. f .bays 1))
+      phase = f .phase;
+      straps = f .straps;
+      lock-time = f .lock-time;
+      bay-count = omega arith;
+      bays = both (dbccrStored v s) (f .bays 0) (pick (λ b. bayFit b ≡ true) (eqb (v % 4) 1) (λ e. empty-fit) (λ e. f .bays 1));
     }
 
 dbccr-parts : (v : ℕ) (s : Controller) → Fits s → Fits (dbccrWrite v s)
@@ -161,9 +161,9 @@ bus-parts s p f = record { phase = f .phase; straps = f .straps; lock-time = f .
 pub fits-kept : Kept (λ s. fits s ≡ true)
 fits-kept =
     record {
-        by-reset = λ straps levels l. fit-parts _ .1 (reset-parts straps levels l);
-        by-bus = λ p s t h. fit-parts _ .1 (bus-parts s p (fit-parts s .0 h));
-        by-write = λ a v s t h. fit-parts _ .1 (written-parts a v s (fit-parts s .0 h));
-        by-pins = λ levels s t h. fit-parts _ .1 (pins-parts levels s (fit-parts s .0 h));
-        by-tick = λ s t h. fit-parts _ .1 (tick-parts s (fit-parts s .0 h))
+      by-reset = λ straps levels l. fit-parts _ .1 (reset-parts straps levels l);
+      by-bus = λ p s t h. fit-parts _ .1 (bus-parts s p (fit-parts s .0 h));
+      by-write = λ a v s t h. fit-parts _ .1 (written-parts a v s (fit-parts s .0 h));
+      by-pins = λ levels s t h. fit-parts _ .1 (pins-parts levels s (fit-parts s .0 h));
+      by-tick = λ s t h. fit-parts _ .1 (tick-parts s (fit-parts s .0 h));
     }

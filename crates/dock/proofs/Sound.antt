@@ -74,11 +74,11 @@ reset-keeps : (straps levels : ℕ) → straps ≤ 15 → Sound (resetTo straps 
 unfolding resetTo isOpen NoPulse
 reset-keeps straps levels l =
     record {
-        fit = fits-kept .by-reset straps levels l;
-        bays = each BaySound (resetTo straps levels) (reset-sound _ _) (reset-sound _ _);
-        closed = λ o. absurd (true≢false o);
-        pulses = λ m. each NoPulse (resetTo straps levels) (no-pulse-reset _ _) (no-pulse-reset _ _);
-        untouched = λ f. absurd (true≢false f)
+      fit = fits-kept .by-reset straps levels l;
+      bays = each BaySound (resetTo straps levels) (reset-sound _ _) (reset-sound _ _);
+      closed = λ o. absurd (true≢false o);
+      pulses = λ m. each NoPulse (resetTo straps levels) (no-pulse-reset _ _) (no-pulse-reset _ _);
+      untouched = λ f. absurd (true≢false f);
     }
 
 bus-keeps : (p : Progress) (s : Controller) → s .started ≡ true → Sound s → Sound (withProgress p s)
@@ -90,22 +90,22 @@ pins-keeps : (levels : ℕ) (s : Controller) → s .started ≡ true → Sound s
 unfolding pinsTo bayAt isOpen NoPulse
 pins-keeps levels s t h =
     record {
-        fit = fits-kept .by-pins levels s t (h .fit);
-        bays = each BaySound (pinsTo levels s) (sampled-at s 0 _ (h .bays 0)) (sampled-at s 1 _ (h .bays 1));
-        closed = λ o. sampled-closed s _ o ∙ h .closed o;
-        pulses = λ m. each NoPulse (pinsTo levels s) (sampled-pulse s 0 _ ∙ h .pulses m 0) (sampled-pulse s 1 _ ∙ h .pulses m 1);
-        untouched = λ f. absurd (true≢false (sym t ∙ f))
+      fit = fits-kept .by-pins levels s t (h .fit);
+      bays = each BaySound (pinsTo levels s) (sampled-at s 0 _ (h .bays 0)) (sampled-at s 1 _ (h .bays 1));
+      closed = λ o. sampled-closed s _ o ∙ h .closed o;
+      pulses = λ m. each NoPulse (pinsTo levels s) (sampled-pulse s 0 _ ∙ h .pulses m 0) (sampled-pulse s 1 _ ∙ h .pulses m 1);
+      untouched = λ f. absurd (true≢false (sym t ∙ f));
     }
 
 tick-keeps : (s : Controller) → s .started ≡ true → Sound s → Sound (tickTo s)
 unfolding tickTo bayAt isOpen NoPulse
 tick-keeps s t h =
     record {
-        fit = fits-kept .by-tick s t (h .fit);
-        bays = each BaySound (tickTo s) (ticked-at s 0 (h .bays 0)) (ticked-at s 1 (h .bays 1));
-        closed = λ o. ticked-closed s o ∙ h .closed o;
-        pulses = λ m. each NoPulse (tickTo s) (ticked-pulse s 0 (h .pulses m 0)) (ticked-pulse s 1 (h .pulses m 1));
-        untouched = λ f. absurd (true≢false (sym t ∙ f))
+      fit = fits-kept .by-tick s t (h .fit);
+      bays = each BaySound (tickTo s) (ticked-at s 0 (h .bays 0)) (ticked-at s 1 (h .bays 1));
+      closed = λ o. ticked-closed s o ∙ h .closed o;
+      pulses = λ m. each NoPulse (tickTo s) (ticked-pulse s 0 (h .pulses m 0)) (ticked-pulse s 1 (h .pulses m 1));
+      untouched = λ f. absurd (true≢false (sym t ∙ f));
     }
 
 -- ---- writes: what is sound but for being fit, which is kept by every write already
@@ -119,9 +119,9 @@ with-bay : (i : ℕ) (b : Bay) (s : Controller) → isOpen s i ≡ true → BayS
 unfolding withBay isOpen NoPulse
 with-bay i b s o p z h =
     record {
-        bays = λ j. put-each BaySound i b s p j (h .bays j);
-        closed = λ c. other-kept i 1 b s (first c) ∙ h .closed c;
-        pulses = λ m j. put-each NoPulse i b s (z m) j (h .pulses m j)
+      bays = λ j. put-each BaySound i b s p j (h .bays j);
+      closed = λ c. other-kept i 1 b s (first c) ∙ h .closed c;
+      pulses = λ m j. put-each NoPulse i b s (z m) j (h .pulses m j);
     }
   where
     -- an open bay while bay 1 is closed is bay 0
@@ -136,9 +136,9 @@ stored-sound : (v : ℕ) (s : Controller) → Sounds s → Sounds (dbccrStored v
 unfolding dbccrStored bayAt isOpen NoPulse
 stored-sound v s h =
     record {
-        bays = each BaySound (dbccrStored v s) (h .bays 0) (pick BaySound (eqb (v % 4) 1) (λ e. empty-sound) (λ e. h .bays 1));
-        closed = emptied;
-        pulses = λ m. each NoPulse (dbccrStored v s) (h .pulses m 0) (pick NoPulse (eqb (v % 4) 1) (λ e. no-pulse-empty) (λ e. h .pulses m 1))
+      bays = each BaySound (dbccrStored v s) (h .bays 0) (pick BaySound (eqb (v % 4) 1) (λ e. empty-sound) (λ e. h .bays 1));
+      closed = emptied;
+      pulses = λ m. each NoPulse (dbccrStored v s) (h .pulses m 0) (pick NoPulse (eqb (v % 4) 1) (λ e. no-pulse-empty) (λ e. h .pulses m 1));
     }
   where
     emptied : not (eqb (v % 4) 1) ≡ false → cond (eqb (v % 4) 1) emptyBay (bayAt s 1) ≡ emptyBay
@@ -167,11 +167,11 @@ write-keeps a v s t h =
     let start : Sounds s = record { bays = h .bays; closed = h .closed; pulses = h .pulses } in
     let r = by-address Sounds a v s (dbccr-sound v s start) (letr-sound v s start) (λ i. bstr-sound i v s start) (λ i. bcer-sound i v s start) start in
     record {
-        fit = fits-kept .by-write a v s t (h .fit);
-        bays = r .bays;
-        closed = r .closed;
-        pulses = r .pulses;
-        untouched = λ f. absurd (true≢false (sym (write-started a v s ∙ t) ∙ f))
+      fit = fits-kept .by-write a v s t (h .fit);
+      bays = r .bays;
+      closed = r .closed;
+      pulses = r .pulses;
+      untouched = λ f. absurd (true≢false (sym (write-started a v s ∙ t) ∙ f));
     }
 
 -- ---- every reached state
@@ -180,11 +180,11 @@ fresh-sound : Sound freshController
 unfolding freshController bayAt isOpen NoPulse
 fresh-sound =
     record {
-        fit = fresh-fit;
-        bays = each BaySound freshController empty-sound empty-sound;
-        closed = λ o. absurd (true≢false o);
-        pulses = λ m. each NoPulse freshController no-pulse-empty no-pulse-empty;
-        untouched = λ f. refl
+      fit = fresh-fit;
+      bays = each BaySound freshController empty-sound empty-sound;
+      closed = λ o. absurd (true≢false o);
+      pulses = λ m. each NoPulse freshController no-pulse-empty no-pulse-empty;
+      untouched = λ f. refl;
     }
 
 pub sound-kept : Kept Sound

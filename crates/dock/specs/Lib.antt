@@ -4,6 +4,7 @@ pub mod Registers
 pub mod Events
 pub mod Answers
 pub mod Step
+pub mod Refusals
 pub mod Run
 pub mod Sound
 pub mod Kept

@@ -57,15 +57,15 @@ readingOf s a = cond (s .started) (register s a) 0
 unfoldable pub dbccrStored : ℕ → Controller → Controller
 dbccrStored v s =
     record {
-        started = s .started;
-        straps = s .straps;
-        «dbccr_written» = true;
-        seclock = bit 4 v;
-        «bay_count» = v % 4;
-        «lock_time» = s .«lock_time»;
-        phase = s .phase;
-        progress = s .progress;
-        bays = bayAt s 0 ∷ cond (eqb (v % 4) 1) emptyBay (bayAt s 1) ∷ []
+      started = s .started;
+      straps = s .straps;
+      «dbccr_written» = true;
+      seclock = bit 4 v;
+      «bay_count» = v % 4;
+      «lock_time» = s .«lock_time»;
+      phase = s .phase;
+      progress = s .progress;
+      bays = bayAt s 0 ∷ cond (eqb (v % 4) 1) emptyBay (bayAt s 1) ∷ [];
     }
 
 -- Only the first write after a RESET counts, even if it writes 0.

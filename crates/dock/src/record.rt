@@ -37,14 +37,14 @@ impl Controller {
     }
 
     // Bay 0, or else bay 1.
-    pub fn bay(self, i: u8) -> Bay
+    pub(crate) fn bay(self, i: u8) -> Bay
         ensures { λ r. ⌜ r ≡ bayAt self i ⌝ }
     {
         let bays = self.bays;
         if i == 0 { bays[0] } else { bays[1] }
     }
 
-    pub fn with_bay(mut self, i: u8, bay: Bay) -> Controller
+    pub(crate) fn with_bay(mut self, i: u8, bay: Bay) -> Controller
         ensures { λ r. ⌜ r ≡ withBay i bay self ⌝ }
     {
         let bays = self.bays;
@@ -61,7 +61,7 @@ impl Controller {
     }
 
     // Bay 0 is always open, bay 1 unless the stored count is 1.
-    pub fn is_open(self, i: u8) -> bool
+    pub(crate) fn is_open(self, i: u8) -> bool
         ensures { λ r. ⌜ r ≡ isOpen self i ⌝ }
     {
         (i == 0) | !(self.bay_count == Controller::ONE_BAY)

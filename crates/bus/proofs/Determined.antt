@@ -1,0 +1,32 @@
+-- The contract of each exported call, as the checker reads it, determines the call's answer. Assumes nothing.
+use Prim.Native.Nat.{ℕ}
+use mathlib.Core.Path.{_≡_, _∙_, sym}
+use Rattle.bus.specs.declared.Progress.{Progress}
+use Rattle.bus.specs.declared.Heard.{Heard}
+use Rattle.bus.specs.declared.Reply.{Reply}
+use Rattle.bus.proofs.own_write.Reads as own-write-reads
+use Rattle.bus.proofs.own_read.Reads as own-read-reads
+use Rattle.bus.proofs.Progress.start.Reads as start-reads
+use Rattle.bus.proofs.Progress.byte.Reads as heard-reads
+use Rattle.bus.proofs.Reply.number.Reads as number-reads
+use Rattle.bus.proofs.Reply.byte.Reads as byte-reads
+
+pub own-write-determined : (x r s : ℕ) → own-write-reads.Post tt (x, tt) r (x, tt) → own-write-reads.Post tt (x, tt) s (x, tt) → r ≡ s
+own-write-determined x r s p q = p ∙ sym q
+
+pub own-read-determined : (x r s : ℕ) → own-read-reads.Post tt (x, tt) r (x, tt) → own-read-reads.Post tt (x, tt) s (x, tt) → r ≡ s
+own-read-determined x r s p q = p ∙ sym q
+
+pub start-determined : (x r s : Progress) → start-reads.Post tt (x, tt) r (x, tt) → start-reads.Post tt (x, tt) s (x, tt) → r ≡ s
+start-determined x r s p q = p ∙ sym q
+
+pub heard-determined :
+    (x : Progress) (straps b : ℕ) (r s : Heard)
+    → heard-reads.Post tt (x, (straps, (b, tt))) r (x, (straps, (b, tt))) → heard-reads.Post tt (x, (straps, (b, tt))) s (x, (straps, (b, tt))) → r ≡ s
+heard-determined x straps b r s p q = p ∙ sym q
+
+pub number-determined : (x : Reply) (r s : ℕ) → number-reads.Post tt (x, tt) r (x, tt) → number-reads.Post tt (x, tt) s (x, tt) → r ≡ s
+number-determined x r s p q = p ∙ sym q
+
+pub byte-determined : (x : Reply) (r s : ℕ) → byte-reads.Post tt (x, tt) r (x, tt) → byte-reads.Post tt (x, tt) s (x, tt) → r ≡ s
+byte-determined x r s p q = p ∙ sym q

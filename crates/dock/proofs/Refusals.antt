@@ -1,0 +1,131 @@
+-- Each refusal is given exactly when the table says, and leaves the state as it came: by cases on the three tests of a step.
+-- Assumes nothing.
+use Prim.Native.Nat.{ℕ}
+use native.Mathlib.Omega.{arith}
+use mathlib.Core.Path.{_≡_, refl, sym, ap, _∙_}
+use mathlib.Core.Logic.{_↔_, _≢_, _⊎_, inl, inr, ⊎-elim}
+use mathlib.Core.Bool.{Bool, true, false, cond, true≢false, false≢true}
+use Rattle.event.specs.Words.{unpacked, StrayBitSet}
+use Rattle.event.specs.declared.Event.{Event}
+use Rattle.event.specs.declared.Event.the-variants.{Start, Stop, Byte, Take, Pins, Tick, Reset, Timeout}
+use Rattle.event.specs.declared.Unpacked.{Unpacked}
+use Rattle.event.specs.declared.Unpacked.the-variants.{Accepted, StrayBit as NoEvent}
+use Rattle.event.proofs.Theorems.{words-refused}
+use Rattle.event.proofs.RoundTrip.{accepted-is-none}
+use Rattle.bay.proofs.Taut.{pick}
+use Rattle.dock.specs.Record.{fits}
+use Rattle.dock.specs.Events.{actedOn}
+use Rattle.dock.specs.Answers.{refusalOf}
+use Rattle.dock.specs.Step.{takes, stepFit, stepOf}
+use Rattle.dock.specs.Refusals.{IsReset, Exactly}
+use Rattle.dock.specs.declared.Controller.{Controller}
+use Rattle.dock.specs.declared.Stepped.{Stepped}
+
+-- A refused word leaves the state as it came.
+pub refused-unchanged : (s : Controller) (w : ℕ) → refusalOf (stepOf s w .answer) ≢ 0 → stepOf s w .controller ≡ s
+unfolding stepOf refusalOf
+refused-unchanged s w = pick Unchanged (fits s) (λ f. by-word (unpacked w)) (λ f n. refl)
+  where
+    Unchanged : Stepped → Type 0
+    Unchanged x = refusalOf (x .answer) ≢ 0 → x .controller ≡ s
+
+    by-word : (u : Unpacked) → Unchanged (stepFit s u)
+    by-word NoEvent = λ n. refl
+    by-word (Accepted e) = pick Unchanged (takes (s .started) e) (λ t n. absurd (n refl)) (λ t n. refl)
+
+-- What is taken: anything once started, and before that a RESET.
+Taken : Bool → Event → Type 0
+Taken b e = (b ≡ true) ⊎ ((straps : ℕ) × (levels : ℕ) × (e ≡ Reset straps levels))
+
+taken : (b : Bool) (e : Event) → takes b e ≡ true → Taken b e
+unfolding takes Taken
+taken true e k = inl refl
+taken false Start k = absurd (false≢true k)
+taken false Stop k = absurd (false≢true k)
+taken false (Byte b) k = absurd (false≢true k)
+taken false (Take a) k = absurd (false≢true k)
+taken false (Pins l) k = absurd (false≢true k)
+taken false Tick k = absurd (false≢true k)
+taken false (Reset s l) k = inr (s, l, refl)
+taken false Timeout k = absurd (false≢true k)
+
+reset-taken : (b : Bool) (s l : ℕ) → takes b (Reset s l) ≡ true
+unfolding takes
+reset-taken true s l = refl
+reset-taken false s l = refl
+
+takes-it : (b : Bool) (e : Event) → Taken b e → takes b e ≡ true
+unfolding Taken takes
+takes-it b e (inl t) = rw t
+takes-it b e (inr r) = rw (r .2) (reset-taken b (r .0) (r .1))
+
+-- ---- the three tests, one after the other
+
+module _ (s : Controller) (w : ℕ) where
+  unfit : fits s ≡ false → Exactly s w 1
+  unfit f =
+      record {
+        one = (λ n. f, λ g. refl);
+        two = (λ n. absurd (omega arith), λ h. absurd (false≢true (sym f ∙ h .0)));
+        three = (λ n. absurd (omega arith), λ h. absurd (false≢true (sym f ∙ h .0)));
+        none = (λ n. absurd (omega arith), λ h. absurd (false≢true (sym f ∙ h .0)));
+      }
+
+  stray : fits s ≡ true → StrayBitSet w → Exactly s w 2
+  stray f b =
+      record {
+        one = (λ n. absurd (omega arith), λ g. absurd (true≢false (sym f ∙ g)));
+        two = (λ n. (f, b), λ h. refl);
+        three = (λ n. absurd (omega arith), λ h. absurd (h .1 b));
+        none = (λ n. absurd (omega arith), λ h. absurd (h .1 b));
+      }
+
+  early : fits s ≡ true → (StrayBitSet w → ⊥) → s .started ≡ false → (IsReset w → ⊥) → Exactly s w 3
+  early f b t r =
+      record {
+        one = (λ n. absurd (omega arith), λ g. absurd (true≢false (sym f ∙ g)));
+        two = (λ n. absurd (omega arith), λ h. absurd (b (h .1)));
+        three = (λ n. (f, b, t, r), λ h. refl);
+        none = (λ n. absurd (omega arith), λ h. absurd (⊎-elim (λ u. true≢false (sym u ∙ t)) r (h .2)));
+      }
+
+  accepted : fits s ≡ true → (StrayBitSet w → ⊥) → (s .started ≡ true) ⊎ IsReset w → Exactly s w 0
+  accepted f b t =
+      record {
+        one = (λ n. absurd (omega arith), λ g. absurd (true≢false (sym f ∙ g)));
+        two = (λ n. absurd (omega arith), λ h. absurd (b (h .1)));
+        three = (λ n. absurd (omega arith), λ h. absurd (⊎-elim (λ u. true≢false (sym u ∙ h .2)) (h .3) t));
+        none = (λ n. (f, b, t), λ h. refl);
+      }
+
+  by-event : fits s ≡ true → (StrayBitSet w → ⊥) → (e : Event) → unpacked w ≡ Accepted e → Exactly s w (refusalOf (stepFit s (Accepted e) .answer))
+  unfolding refusalOf Taken
+  by-event f b e p =
+      pick (λ (x : Stepped). Exactly s w (refusalOf (x .answer))) (takes (s .started) e) (λ k. accepted f b (reset-word (taken _ e k))) (λ k. refused-early k)
+    where
+      reset-word : Taken (s .started) e → (s .started ≡ true) ⊎ IsReset w
+      reset-word (inl t) = inl t
+      reset-word (inr r) = inr (r .0, r .1, p ∙ ap Accepted (r .2))
+
+      -- another event of the same word is the same event
+      same : {x : Event} → unpacked w ≡ Accepted x → e ≡ x
+      same q = let j : Accepted e ≡ Accepted _ = sym p ∙ q in cc
+
+      refused-early : takes (s .started) e ≡ false → Exactly s w 3
+      refused-early k =
+          early f b (not-started (s .started) refl)
+          (λ r. false≢true (sym k ∙ takes-it (s .started) e (inr (r .0, r .1, same (r .2)))))
+        where
+          not-started : (t : Bool) → s .started ≡ t → s .started ≡ false
+          not-started true t = absurd (false≢true (sym k ∙ takes-it (s .started) e (inl t)))
+          not-started false t = t
+
+  by-word : fits s ≡ true → (u : Unpacked) → unpacked w ≡ u → Exactly s w (refusalOf (stepFit s u .answer))
+  unfolding refusalOf
+  by-word f NoEvent p = stray f (words-refused w .0 p)
+  by-word f (Accepted e) p = by-event f (λ b. accepted-is-none (sym p ∙ words-refused w .1 b)) e p
+
+  -- Each refusal is given exactly when the table says.
+  pub exactly : Exactly s w (refusalOf (stepOf s w .answer))
+  unfolding stepOf refusalOf
+  exactly = pick (λ (x : Stepped). Exactly s w (refusalOf (x .answer))) (fits s) (λ f. by-word f (unpacked w) refl) (λ f. unfit f)
