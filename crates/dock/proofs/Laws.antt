@@ -24,7 +24,7 @@ use Rattle.bus.specs.declared.Progress.the-variants.{Data}
 use Rattle.bus.specs.declared.Reply.the-variants.{Nothing}
 use Rattle.dock.specs.Record.{bayAt, withBay, isOpen, fits, lockMode, freshController}
 use Rattle.dock.specs.Outputs.{nibble, wants, outputsOf}
-use Rattle.dock.specs.Registers.{bstrAt, bcerAt, register, readingOf, pulseTicks, bstrWrite, bcerWrite, written}
+use Rattle.dock.specs.Registers.{bstrAt, bcerAt, register, registers, readingOf, pulseTicks, bstrWrite, bcerWrite, written}
 use Rattle.dock.specs.Events.{sampledAt, tickedAt, pinsTo, tickTo, withProgress, ended, stopAt, stopTo, actedOn}
 use Rattle.dock.specs.Answers.{refusalOf}
 use Rattle.dock.specs.Step.{takes, stepFit, stepOf, done, refused}
@@ -70,7 +70,7 @@ pub record PassedBy (s : Controller) : Type 0 where
   pub wants-none : wants s 1 ≡ false
 
 pub closed-bay : (s : Controller) → isOpen s 1 ≡ false → PassedBy s
-unfolding pinsTo tickTo bayAt sampledAt tickedAt readingOf register bstrAt bcerAt written bstrWrite bcerWrite nibble wants
+unfolding pinsTo tickTo bayAt sampledAt tickedAt readingOf register registers bstrAt bcerAt written bstrWrite bcerWrite nibble wants
 closed-bay s o =
     record {
       pins = λ levels. rw o;

@@ -4,5 +4,7 @@ pub mod Kept
 pub mod Fit
 pub mod Sound
 pub mod Refusals
+pub mod Run
+pub mod Ranges
 pub mod Laws
 pub mod Determined

@@ -33,11 +33,10 @@ bstrAt s i = cond (isOpen s i) (bstrOf (bayAt s i)) 0
 unfoldable pub bcerAt : Controller → ℕ → ℕ
 bcerAt s i = cond (isOpen s i) (bcerOf (bayAt s i)) 0
 
--- Every other address reads 0.
-unfoldable pub register : Controller → ℕ → ℕ
-register s a =
-    find a
-    (at 0x00 0x55
+-- The register map.
+unfoldable pub registers : Controller → List (Row ℕ)
+registers s =
+    at 0x00 0x55
     ∷ at 0x01 0x10
     ∷ at 0x04 0x01
     ∷ at 0x0C (dbccrOf s)
@@ -46,8 +45,11 @@ register s a =
     ∷ at 0x18 (bstrAt s 1)
     ∷ at 0x1C (bcerAt s 1)
     ∷ at 0x40 (s .«lock_time» % 4)
-    ∷ [])
-    0
+    ∷ []
+
+-- Every other address reads 0.
+unfoldable pub register : Controller → ℕ → ℕ
+register s a = find a (registers s) 0
 
 -- Of a state not started every register reads 0.
 unfoldable pub readingOf : Controller → ℕ → ℕ

@@ -1,0 +1,5 @@
+pub mod Records
+pub mod Loop
+pub mod Accepted
+pub mod Decode
+pub mod Theorems

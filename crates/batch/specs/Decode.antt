@@ -1,0 +1,26 @@
+-- A record read back: the four fields of its four bytes, and the answer that has them (document 01, "Replies and refusal numbers").
+use Prim.Native.Nat.{ℕ, _+_, _*_, _/_, _%_}
+use mathlib.Core.List.{List, [], _∷_}
+use lib.ListN.{getD}
+use Rattle.bus.specs.declared.Reply.{Reply}
+use Rattle.bus.specs.declared.Reply.the-variants.{Nothing, Ack, NoAck, Driven, NotDriven}
+use Rattle.dock.specs.declared.Answer.{Answer}
+use Rattle.dock.specs.declared.Answer.the-variants.{Done, Unfit, StrayBit, NotStarted}
+
+-- Four bytes as one number, most significant first.
+abbrev pub numberOf : List ℕ → ℕ
+numberOf r = ((getD r 0 0 * 256 + getD r 1 0) * 256 + getD r 2 0) * 256 + getD r 3 0
+
+-- A reply by its number and byte.
+abbrev pub replyBy : ℕ → ℕ → Reply
+replyBy n byte = getD (Nothing ∷ Ack ∷ NoAck ∷ Driven byte ∷ []) n NotDriven
+
+-- An answer by its refusal, reply, byte and outputs.
+abbrev pub answerBy : ℕ → ℕ → ℕ → ℕ → Answer
+answerBy refusal reply byte outputs = getD (Done (replyBy reply byte) outputs ∷ Unfit ∷ StrayBit outputs ∷ []) refusal NotStarted
+
+abbrev pub answerIn : ℕ → Answer
+answerIn n = answerBy (n / 268435456) (n / 33554432 % 8) (n / 131072 % 256) (n / 256 % 512)
+
+unfoldable pub decode : List ℕ → Answer
+decode r = answerIn (numberOf r)

@@ -1,0 +1,4 @@
+pub mod Record
+pub mod Outcome
+pub mod Batch
+pub mod Decode

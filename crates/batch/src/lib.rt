@@ -1,0 +1,149 @@
+// Many events in one call, and the four-byte record of an answer (document 01, "Replies and refusal numbers").
+ghost use mathlib.Core.Path.{_≡_};
+ghost use mathlib.Core.List.{_++_};
+ghost use lib.ListN.{length, drop};
+ghost use Prim.Native.Nat.{_*_, _≤_};
+ghost use Rattle.dock.specs.Run.{after, answersTo};
+ghost use Rattle.batch.specs.Record.{recordNumber, recordOf, recordsOf};
+ghost use Rattle.batch.specs.Batch.{batchOf, bufferAfter, outcomeOf};
+ghost use Rattle.batch.specs.Outcome.{outcomeRefusal, outcomeCount};
+use dock::Answer;
+use dock::Controller;
+
+// The most words in one batch.
+pub const MOST_WORDS: usize = 16384;
+// The bytes of a record.
+pub const RECORD: usize = 4;
+
+// What a batch answers.
+pub enum Outcome {
+    // So many records were written.
+    Done(usize),
+    // The state isn't fit.
+    Unfit,
+    // Fewer than 4 answer bytes per word.
+    TooFewBytes,
+    // Over 16,384 words.
+    TooManyWords,
+}
+
+pub struct Batched {
+    pub controller: Controller,
+    pub outcome: Outcome,
+}
+
+// The record as one number: refusal 4 bits, reply 3, byte 8, outputs 9, eight zero bits.
+fn record_number(answer: Answer) -> u32
+    ensures { λ r. ⌜ r ≡ recordNumber answer ⌝ }
+{
+    let refusal = (answer.refusal() % 16) as u32;
+    let reply = (answer.reply() % 8) as u32;
+    let byte = answer.byte() as u32;
+    let outputs = (answer.outputs() % 512) as u32;
+    (((refusal * 8 + reply) * 256 + byte) * 512 + outputs) * 256
+}
+
+// Writes an answer's record, most significant byte first, into the four bytes lent.
+fn write_record(answer: Answer, place: &mut [u8])
+    requires { ⌜ length (now place) ≡ 4 ⌝ }
+    ensures { λ _. ⌜ now (place .exit) ≡ recordOf answer ⌝ }
+{
+    let n = record_number(answer);
+    place[0] = (n / 16777216 % 256) as u8;
+    place[1] = (n / 65536 % 256) as u8;
+    place[2] = (n / 256 % 256) as u8;
+    place[3] = (n % 256) as u8;
+}
+
+// The record of an answer by value.
+pub fn record(answer: Answer) -> [u8; 4]
+    ensures { λ r. ⌜ r ≡ recordOf answer ⌝ }
+{
+    let n = record_number(answer);
+    [
+        (n / 16777216 % 256) as u8,
+        (n / 65536 % 256) as u8,
+        (n / 256 % 256) as u8,
+        (n % 256) as u8,
+    ]
+}
+
+// Refusals 1, 5 and 4, in that order.
+fn verdict(controller: Controller, words: &[u16], records: &[u8]) -> Outcome
+    ensures { λ r. ⌜ r ≡ outcomeOf controller (length (now (words .entry))) (length (now (records .entry))) ⌝ }
+{
+    if !controller.fit() {
+        return Outcome::Unfit;
+    }
+    if MOST_WORDS < words.len() {
+        return Outcome::TooManyWords;
+    }
+    if records.len() < RECORD * words.len() {
+        return Outcome::TooFewBytes;
+    }
+    Outcome::Done(words.len())
+}
+
+// The words one after the other, each with its record at its own place.
+fn run(controller: Controller, words: &[u16], records: &mut [u8]) -> Controller
+    requires { ⌜ 4 * length (now words) ≤ length (now records) ⌝ }
+    ensures { λ r. ⌜ r ≡ after controller (now (words .entry)) ⌝ }
+    ensures { λ _. ⌜ now (records .exit) ≡ recordsOf (answersTo controller (now (words .entry))) ++ drop (4 * length (now (words .entry))) (now (records .entry)) ⌝ }
+{
+    let mut state = controller;
+    let mut i = 0;
+    while i < words.len() {
+        let stepped = state.step(words[i]);
+        let answer = stepped.answer;
+        let at = RECORD * i;
+        write_record(answer, &mut records[at..at + RECORD]);
+        state = stepped.controller;
+        i += 1;
+    }
+    state
+}
+
+// The batch call. A word refused with 2 or 3 gets its record and the batch goes on.
+pub fn batch(controller: Controller, words: &[u16], records: &mut [u8]) -> Batched
+    ensures { λ r. ⌜ r ≡ batchOf controller (now (words .entry)) (length (now (records .entry))) ⌝ }
+    ensures { λ _. ⌜ now (records .exit) ≡ bufferAfter controller (now (words .entry)) (now (records .entry)) ⌝ }
+{
+    let answer = verdict(controller, words, &*records);
+    let Outcome::Done(_) = answer else {
+        return Batched {
+            controller,
+            outcome: answer,
+        };
+    };
+    let next = run(controller, words, records);
+    Batched {
+        controller: next,
+        outcome: answer,
+    }
+}
+
+impl Outcome {
+    // The paper's number for the answer.
+    pub fn refusal(self) -> u8
+        ensures { λ r. ⌜ r ≡ outcomeRefusal self ⌝ }
+    {
+        match self {
+            Outcome::Done(_) => 0,
+            Outcome::Unfit => 1,
+            Outcome::TooFewBytes => 4,
+            Outcome::TooManyWords => 5,
+        }
+    }
+
+    // The number of records written.
+    pub fn count(self) -> usize
+        ensures { λ r. ⌜ r ≡ outcomeCount self ⌝ }
+    {
+        match self {
+            Outcome::Done(count) => count,
+            Outcome::Unfit => 0,
+            Outcome::TooFewBytes => 0,
+            Outcome::TooManyWords => 0,
+        }
+    }
+}
