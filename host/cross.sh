@@ -1,3 +1,4 @@
+# shellcheck shell=bash disable=SC2154
 # Sourced by host/run on a processor that is not x86-64: the library links into x86-64 programs only, so this fetches
 # what builds such programs. Rust's compiler for this machine, Rust's and C's libraries for x86-64 and the C headers
 # come from Debian's packages, and are unpacked below the folder $cross: nothing is installed, and no right of root is
@@ -26,10 +27,10 @@ gcc_version() {
 
 # rustc with the libraries that it needs and this machine lacks, then the x86-64 part.
 download_packages() {
-    apt-get -q update
-    apt-get -q -y --no-install-recommends --reinstall --download-only install rustc
-    (cd "$cross/amd64" && apt-get -q download libc6-dev:amd64 linux-libc-dev:amd64 libstd-rust-dev:amd64 \
-        "libgcc-$(gcc_version)-dev:amd64")
+    apt-get -q update &&
+        apt-get -q -y --no-install-recommends --reinstall --download-only install rustc &&
+        cd "$cross/amd64" && apt-get -q download libc6-dev:amd64 linux-libc-dev:amd64 libstd-rust-dev:amd64 \
+        "libgcc-$(gcc_version)-dev:amd64"
 }
 
 unpack_packages() {
@@ -50,7 +51,7 @@ fetch_cross_tools() {
     echo "host/run: fetching Rust and C libraries for x86-64 (once)" >&2
     rm -rf "$cross"
     write_apt_configuration
-    if ! (export APT_CONFIG=$cross/apt.conf && set -e && download_packages) >"$cross/log" 2>&1; then
+    if ! (export APT_CONFIG="$cross/apt.conf" && download_packages) >"$cross/log" 2>&1; then
         tail -n 5 "$cross/log" >&2
         echo "host/run: the packages could not be fetched: $cross/log" >&2
         return 1
@@ -59,14 +60,17 @@ fetch_cross_tools() {
     touch "$cross/ready"
 }
 
-# The linker's driver, for C and for Rust.
+# Programs are linked statically, so that the emulator needs no x86-64 libraries to run them.
 cross_cc() {
-    "$tools/bin/clang" --target=x86_64-linux-gnu --sysroot="$cross/root" -fuse-ld=lld \
-        -Wno-unused-command-line-argument -isystem "$(echo "$cross"/root/usr/lib/gcc/x86_64-linux-gnu/*/include)" -static "$@"
+    "$tools/bin/clang" --target=x86_64-linux-gnu --sysroot="$cross/root" \
+        -isystem "$(echo "$cross"/root/usr/lib/gcc/x86_64-linux-gnu/*/include)" \
+        -static -fuse-ld=lld -Wno-unused-command-line-argument "$@"
 }
 
 cross_rustc() {
-    LD_LIBRARY_PATH="$cross/root/usr/lib/$(uname -m)-linux-gnu" "$cross/root/usr/bin/rustc" \
+    local libraries
+    libraries=lib/$(uname -m)-linux-gnu
+    LD_LIBRARY_PATH=$cross/root/usr/$libraries:$cross/root/$libraries "$cross/root/usr/bin/rustc" \
         --sysroot "$cross/root/usr" --target x86_64-unknown-linux-gnu \
         -C target-feature=+crt-static -C relocation-model=static \
         -C linker="$tools/bin/clang" -C link-arg=--target=x86_64-linux-gnu -C link-arg=--sysroot="$cross/root" \

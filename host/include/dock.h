@@ -1,4 +1,4 @@
-/* The proved controller of a two-bay cartridge dock.
+/* The proved controller of a two-bay cartridge dock, for C99 or C++11 and newer.
  *
  * The library keeps nothing between calls: each call that takes words begins with a fresh controller and takes the
  * whole history, at most DOCK_MOST_WORDS event words. Every call accepts every input; what it cannot do it refuses

@@ -78,14 +78,16 @@ impl Writer<'_> {
             0..=29 => self.write(),
             30..=49 => self.read(),
             50..=57 => self.broken_command(),
-            58..=64 => self.flip_pins(),
-            65..=78 => self.move_device(),
-            79..=86 => self.press_button(),
-            87..=91 => self.ticks(&SHORT_RUNS),
-            92 => self.ticks(&LONG_RUNS),
-            93..=95 => self.noise(),
-            96 => self.words.push(TIMEOUT),
-            97 => self.unlock(),
+            58 | 59 => self.babble(),
+            60..=64 => self.flip_pins(),
+            65..=76 => self.move_device(),
+            77..=84 => self.press_button(),
+            85..=88 => self.ticks(&SHORT_RUNS),
+            89 => self.ticks(&LONG_RUNS),
+            90..=92 => self.noise(),
+            93 => self.words.push(TIMEOUT),
+            94 | 95 => self.unlock(),
+            96 | 97 => self.capabilities(),
             _ => self.reset(),
         }
     }
@@ -166,10 +168,23 @@ impl Writer<'_> {
         self.write_value(0x40, code);
         self.write_value(address, 0x80);
         self.write_value(address, 0x00);
+        if self.random.one_in(2) {
+            self.ticks(&LONG_RUNS);
+        }
     }
 
-    /// A write or a read with one word dropped, doubled, replaced or put in, and then mostly a read, which shows
-    /// whether the command that should have ended did.
+    /// DBCCR is written once or twice and then read: only the first write after a RESET counts.
+    fn capabilities(&mut self) {
+        for _ in 0..self.random.between(1, 2) {
+            let any = self.random.byte();
+            let value = self.random.pick(&[0x00, 0x01, 0x02, 0x03, 0x10, any]);
+            self.write_value(0x0C, value);
+        }
+        self.read_address(0x0C);
+    }
+
+    /// A write or a read cut short, or with one word dropped, doubled, replaced or put in, and then mostly a read,
+    /// which shows whether the command that should have ended did.
     fn broken_command(&mut self) {
         let address = self.address();
         let value = self.written_value(address);
@@ -177,10 +192,11 @@ impl Writer<'_> {
         let read = [START, byte(self.own), byte(address), START, byte(self.own | 1), take(true), STOP];
         let mut words = if self.random.one_in(2) { write.to_vec() } else { read.to_vec() };
         let place = self.random.below(words.len());
-        match self.random.below(4) {
+        match self.random.below(5) {
             0 => drop(words.remove(place)),
             1 => words.insert(place, words[place]),
             2 => words[place] = self.bus_word(),
+            3 => words.truncate(place),
             _ => words.insert(place, self.bus_word()),
         }
         for word in words {
@@ -197,6 +213,14 @@ impl Writer<'_> {
         let near = 0x90 + self.random.byte() % 8;
         let own = self.own;
         self.random.pick(&[START, STOP, byte(own), byte(own | 1), byte(near), byte(0), byte(any), take(true), TIMEOUT])
+    }
+
+    /// Bus words in any order.
+    fn babble(&mut self) {
+        for _ in 0..self.random.between(2, 12) {
+            let word = self.bus_word();
+            self.bus(word);
+        }
     }
 
     fn store_levels(&mut self, levels: u8) {

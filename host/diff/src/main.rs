@@ -180,9 +180,12 @@ impl Run {
 
     fn failure(&self, mismatch: Mismatch, question: Question, words: &[u16]) -> Failure {
         let short = shrink::shrink(words, |fewer| compare::ask(question, fewer).is_some());
+        let unread = mismatch.position.map_or(0, |place| words.len().saturating_sub(place));
         let mut told = format!(
             "mismatch: seed {}, list {}, after {} words compared\n",
-            self.seed, self.counts.lists, self.counts.words
+            self.seed,
+            self.counts.lists,
+            self.counts.words - unread
         );
         told += &tell(question, words, &mismatch);
         if let Some(shortened) = compare::ask(question, &short) {
