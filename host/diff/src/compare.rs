@@ -56,21 +56,25 @@ fn answer(result: Result<u16, Refusal>) -> u32 {
 /// Asks both, each from the words alone.
 pub fn ask(question: Question, words: &[u16]) -> Option<Mismatch> {
     match question {
-        Question::Replay(room) => replay(words, room),
+        Question::Replay(room) => replay(words, room).err(),
         Question::Reading(address) => reading(words, address, &model::replayed(words)),
         Question::Outputs => outputs(words, &model::replayed(words)),
     }
 }
 
-/// The whole buffer is compared: records, spare bytes, and all of it where the call is refused.
-pub fn replay(words: &[u16], room: Room) -> Option<Mismatch> {
+/// The whole buffer is compared: records, spare bytes, and all of it where the call is refused. Counts the records.
+pub fn replay(words: &[u16], room: Room) -> Result<usize, Mismatch> {
     // A pattern that no record has throughout, so that an untouched byte can be told from a written one.
     let before: Vec<u8> = (0..room.bytes(words.len())).map(|place| 0xA5 ^ (place as u8).wrapping_mul(29)).collect();
     let mut of_library = before.clone();
     let mut of_model = before;
     let library = dock::replay(words, &mut of_library).raw();
-    let model = answer(model::replay(words, &mut of_model).map(|count| count as u16));
-    Mismatch::of_answers(library, model).or_else(|| first_difference(&of_library, &of_model))
+    let model = model::replay(words, &mut of_model);
+    let model_answer = answer(model.map(|count| count as u16));
+    match Mismatch::of_answers(library, model_answer).or_else(|| first_difference(&of_library, &of_model)) {
+        Some(mismatch) => Err(mismatch),
+        None => Ok(model.unwrap_or(0)),
+    }
 }
 
 fn first_difference(library: &[u8], model: &[u8]) -> Option<Mismatch> {

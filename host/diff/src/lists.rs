@@ -183,8 +183,8 @@ impl Writer<'_> {
         self.read_address(0x0C);
     }
 
-    /// A write or a read cut short, or with one word dropped, doubled, replaced or put in, and then mostly a read,
-    /// which shows whether the command that should have ended did.
+    /// A write or a read cut short, or ended from outside, or with one word dropped, doubled, replaced or put in, and
+    /// then mostly a read, which shows whether the command that should have ended did.
     fn broken_command(&mut self) {
         let address = self.address();
         let value = self.written_value(address);
@@ -192,11 +192,12 @@ impl Writer<'_> {
         let read = [START, byte(self.own), byte(address), START, byte(self.own | 1), take(true), STOP];
         let mut words = if self.random.one_in(2) { write.to_vec() } else { read.to_vec() };
         let place = self.random.below(words.len());
-        match self.random.below(5) {
+        match self.random.below(6) {
             0 => drop(words.remove(place)),
             1 => words.insert(place, words[place]),
             2 => words[place] = self.bus_word(),
             3 => words.truncate(place),
+            4 => words.insert(place, self.ending()),
             _ => words.insert(place, self.bus_word()),
         }
         for word in words {
@@ -205,6 +206,15 @@ impl Writer<'_> {
         if !self.random.one_in(4) {
             self.read_address(address);
         }
+    }
+
+    /// What ends a command from outside: a TIMEOUT, or a RESET that leaves the address as it is.
+    fn ending(&mut self) -> u16 {
+        if self.random.one_in(2) {
+            return TIMEOUT;
+        }
+        let address_straps = (self.own - 0x90) << 1;
+        reset(address_straps | self.random.byte() & 3, self.levels)
     }
 
     /// Any word that a command takes notice of, among them addresses of other docks.

@@ -150,9 +150,13 @@ impl Run {
 
     fn replay(&mut self, words: &[u16], room: Room) -> Result<(), Failure> {
         self.counts.lists += 1;
-        self.counts.words += words.len();
-        let mismatch = compare::replay(words, room);
-        self.agrees(mismatch, Question::Replay(room), words)
+        match compare::replay(words, room) {
+            Ok(records) => {
+                self.counts.words += records;
+                Ok(())
+            }
+            Err(mismatch) => Err(self.failure(mismatch, Question::Replay(room), words)),
+        }
     }
 
     fn readings(&mut self, words: &[u16], addresses: &[u8]) -> Result<(), Failure> {
@@ -180,12 +184,11 @@ impl Run {
 
     fn failure(&self, mismatch: Mismatch, question: Question, words: &[u16]) -> Failure {
         let short = shrink::shrink(words, |fewer| compare::ask(question, fewer).is_some());
-        let unread = mismatch.position.map_or(0, |place| words.len().saturating_sub(place));
         let mut told = format!(
             "mismatch: seed {}, list {}, after {} words compared\n",
             self.seed,
             self.counts.lists,
-            self.counts.words - unread
+            self.counts.words + mismatch.position.unwrap_or(0)
         );
         told += &tell(question, words, &mismatch);
         if let Some(shortened) = compare::ask(question, &short) {
