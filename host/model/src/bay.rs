@@ -1,0 +1,260 @@
+//! One bay: its inputs with their debouncing, its state, its two registers and its four outputs.
+
+/// The bits of a bay's four levels; 0 is asserted.
+const N1394: u8 = 8;
+const NUSB: u8 = 4;
+const NREMREQ: u8 = 2;
+const NSL: u8 = 1;
+
+const PRESENCE: u8 = N1394 | NUSB;
+const DEBOUNCED: [u8; 3] = [N1394, NUSB, NREMREQ];
+const ANY_DEBOUNCED: u8 = N1394 | NUSB | NREMREQ;
+
+/// A level is accepted once it has differed for this many ticks.
+const SETTLED_TICKS: u8 = 10;
+
+/// Lamps flash with this many lit phases out of 200.
+const LIT_PHASES: u8 = 100;
+
+#[derive(Clone, Copy, PartialEq, Eq, Debug)]
+enum State {
+    Empty,
+    Inserted,
+    Enabled,
+    RemovalRequested,
+    RemovalAllowed,
+}
+
+impl State {
+    /// The state that a request asks for; 0 and 5 to 7 ask for none.
+    fn requested(request: u8) -> Option<State> {
+        match request {
+            1 => Some(State::Inserted),
+            2 => Some(State::Enabled),
+            3 => Some(State::RemovalRequested),
+            4 => Some(State::RemovalAllowed),
+            _ => None,
+        }
+    }
+
+    /// Whether the removal button means anything here.
+    fn takes_removal_request(self) -> bool {
+        matches!(self, State::Inserted | State::Enabled)
+    }
+}
+
+/// The control bits of BCER, apart from the request.
+#[derive(Clone, Copy, Default, PartialEq, Eq, Debug)]
+struct Control {
+    lock: bool,
+    remreq_enable: bool,
+    devstschg_enable: bool,
+    remevtwak_enable: bool,
+    power: bool,
+}
+
+#[derive(Clone, PartialEq, Eq, Debug)]
+pub struct Bay {
+    levels: u8,
+    accepted: u8,
+    counts: [u8; DEBOUNCED.len()],
+    state: State,
+    remreq_status: bool,
+    devstschg: bool,
+    request: u8,
+    control: Control,
+    pulse: u8,
+}
+
+impl Bay {
+    /// A bay after RESET with these four levels, and LOCK_CTL as the straps make it.
+    pub fn reset(levels: u8, lock: bool) -> Bay {
+        let mut bay = Bay {
+            levels,
+            accepted: levels,
+            counts: [0; DEBOUNCED.len()],
+            state: State::Empty,
+            remreq_status: false,
+            devstschg: false,
+            request: 0,
+            control: Control { lock, ..Control::default() },
+            pulse: 0,
+        };
+        bay.devstschg = bay.present();
+        bay
+    }
+
+    /// A bay with nothing in it and nothing set: all levels high.
+    pub fn empty() -> Bay {
+        Bay::reset(0x0F, false)
+    }
+
+    fn present(&self) -> bool {
+        self.accepted & PRESENCE != PRESENCE
+    }
+
+    /// New levels; an input that is back at its accepted level starts counting afresh.
+    pub fn pins(&mut self, levels: u8) {
+        self.levels = levels;
+        for (count, input) in self.counts.iter_mut().zip(DEBOUNCED) {
+            if (levels ^ self.accepted) & input == 0 {
+                *count = 0;
+            }
+        }
+    }
+
+    pub fn tick(&mut self) {
+        if (self.levels ^ self.accepted) & ANY_DEBOUNCED != 0 {
+            self.settle();
+        }
+        self.pulse = self.pulse.saturating_sub(1);
+    }
+
+    /// One tick for inputs that differ from their accepted level, and the move that may follow.
+    fn settle(&mut self) {
+        let before = self.accepted;
+        let was_present = self.present();
+        self.debounce();
+        let changed = self.accepted ^ before;
+        let mut moved = false;
+        if changed & PRESENCE != 0 {
+            moved = self.presence_changed(was_present);
+        }
+        if changed & NREMREQ != 0 && self.accepted & NREMREQ == 0 {
+            self.pressed(moved);
+        }
+    }
+
+    fn debounce(&mut self) {
+        let differing = self.levels ^ self.accepted;
+        for (count, input) in self.counts.iter_mut().zip(DEBOUNCED) {
+            if differing & input == 0 {
+                continue;
+            }
+            *count += 1;
+            if *count == SETTLED_TICKS {
+                self.accepted ^= input;
+                *count = 0;
+            }
+        }
+    }
+
+    /// Either presence bit has changed. Says whether that gave the bay a state.
+    fn presence_changed(&mut self, was_present: bool) -> bool {
+        let leaving = was_present && !self.present();
+        let arriving = !was_present && self.present();
+        let silent = leaving && self.state == State::RemovalAllowed && !self.control.remevtwak_enable;
+        if !silent {
+            self.devstschg = true;
+        }
+        if leaving {
+            self.state = State::Empty;
+            self.request = 0;
+            self.control.power = false;
+            return true;
+        }
+        if arriving && self.control.devstschg_enable {
+            self.state = State::Inserted;
+            return true;
+        }
+        false
+    }
+
+    /// A press counts as a request only if the last one was cleared and nothing moved the bay in this tick.
+    fn pressed(&mut self, moved: bool) {
+        let fresh = !self.remreq_status;
+        self.remreq_status = true;
+        if self.control.remreq_enable && fresh && !moved && self.state.takes_removal_request() {
+            self.state = State::RemovalRequested;
+        }
+    }
+
+    /// BSTR.
+    pub fn status(&self) -> u8 {
+        let locked = self.levels & NSL == 0;
+        let has_1394 = self.accepted & N1394 == 0;
+        let has_usb = self.accepted & NUSB == 0;
+        u8::from(locked) << 7
+            | (self.state as u8) << 4
+            | u8::from(self.remreq_status) << 3
+            | u8::from(self.devstschg) << 2
+            | u8::from(has_1394) << 1
+            | u8::from(has_usb)
+    }
+
+    /// Writing 1 to a sticky bit of BSTR clears it.
+    pub fn write_status(&mut self, value: u8) {
+        if value & 0x08 != 0 {
+            self.remreq_status = false;
+        }
+        if value & 0x04 != 0 {
+            self.devstschg = false;
+        }
+    }
+
+    /// BCER.
+    pub fn control(&self) -> u8 {
+        u8::from(self.control.lock) << 7
+            | self.request << 4
+            | u8::from(self.control.remreq_enable) << 3
+            | u8::from(self.control.devstschg_enable) << 2
+            | u8::from(self.control.remevtwak_enable) << 1
+            | u8::from(self.control.power)
+    }
+
+    /// A write to BCER. `pulse` is the length of the unlocking pulse, and 0 in the mode that has none.
+    pub fn write_control(&mut self, value: u8, pulse: u8) {
+        let old = self.control;
+        let lock = value & 0x80 != 0;
+        self.control = Control {
+            lock,
+            remreq_enable: value & 0x08 != 0,
+            devstschg_enable: value & 0x04 != 0,
+            remevtwak_enable: value & 0x02 != 0,
+            power: value & 0x01 != 0 && lock && self.present(),
+        };
+        let requested = State::requested(value >> 4 & 7);
+        if let Some(state) = requested {
+            self.request = state as u8;
+        }
+        if let Some(state) = self.written_move(requested, old) {
+            self.state = state;
+        }
+        if old.lock && !lock && pulse > 0 {
+            self.pulse = pulse;
+        }
+    }
+
+    /// The one move of a BCER write: the first that applies.
+    fn written_move(&self, requested: Option<State>, old: Control) -> Option<State> {
+        if requested.is_some() && self.present() {
+            return requested;
+        }
+        let devstschg_rises = !old.devstschg_enable && self.control.devstschg_enable;
+        if devstschg_rises && self.state == State::Empty && self.present() {
+            return Some(State::Inserted);
+        }
+        let remreq_rises = !old.remreq_enable && self.control.remreq_enable;
+        if remreq_rises && self.remreq_status && self.state.takes_removal_request() {
+            return Some(State::RemovalRequested);
+        }
+        None
+    }
+
+    /// Power, lock pin, green and yellow, bits 3 to 0.
+    pub fn outputs(&self, lock_pulses: bool, phase: u8) -> u16 {
+        let lit = phase < LIT_PHASES;
+        let lock_pin = if lock_pulses { self.pulse == 0 } else { self.control.lock };
+        let (green, yellow) = match self.state {
+            State::Enabled => (true, false),
+            State::Inserted => (lit, false),
+            State::RemovalRequested => (false, lit),
+            State::Empty | State::RemovalAllowed => (false, false),
+        };
+        u16::from(self.control.power) << 3 | u16::from(lock_pin) << 2 | u16::from(green) << 1 | u16::from(yellow)
+    }
+
+    pub fn interrupts(&self) -> bool {
+        self.remreq_status && self.control.remreq_enable || self.devstschg && self.control.devstschg_enable
+    }
+}

@@ -1,0 +1,227 @@
+//! The controller: straps, register map, one event at a time.
+
+use crate::bay::Bay;
+use crate::bus::Command;
+use crate::{unpack, Answer, Event, Refusal, Reply};
+
+const PHASES: u8 = 200;
+
+/// LETR's four pulse lengths, in ticks.
+const PULSE_TICKS: [u8; 4] = [12, 50, 100, 200];
+
+/// The address byte for writing at SMB_A 0.
+const BASE_ADDRESS: u8 = 0x90;
+
+const DBCCR: u8 = 0x0C;
+const BSTR: [u8; 2] = [0x10, 0x18];
+const BCER: [u8; 2] = [0x14, 0x1C];
+const LETR: u8 = 0x40;
+
+const DBCCR_BITS: u8 = 0x13;
+const BAY_COUNT_BITS: u8 = 0x03;
+const LETR_BITS: u8 = 0x03;
+
+/// The whole controller. A fresh one waits for its first RESET.
+#[derive(Clone, PartialEq, Eq, Debug)]
+pub struct Controller {
+    started: bool,
+    write_address: u8,
+    lock_pulses: bool,
+    command: Command,
+    capabilities: u8,
+    capabilities_written: bool,
+    lock_time: u8,
+    phase: u8,
+    bays: [Bay; 2],
+}
+
+impl Default for Controller {
+    fn default() -> Self {
+        Controller::new()
+    }
+}
+
+impl Controller {
+    pub fn new() -> Controller {
+        Controller {
+            started: false,
+            write_address: BASE_ADDRESS,
+            lock_pulses: false,
+            command: Command::Idle,
+            capabilities: 0,
+            capabilities_written: false,
+            lock_time: 0,
+            phase: 0,
+            bays: [Bay::empty(), Bay::empty()],
+        }
+    }
+
+    /// One event word. A refused word changes nothing.
+    pub fn step(&mut self, word: u16) -> Answer {
+        let (refusal, reply) = match unpack(word) {
+            None => (Some(Refusal::StrayBit), Reply::None),
+            Some(event) if !self.started && !matches!(event, Event::Reset { .. }) => {
+                (Some(Refusal::NotStarted), Reply::None)
+            }
+            Some(event) => (None, self.take_event(event)),
+        };
+        Answer { refusal, reply, outputs: self.outputs() }
+    }
+
+    fn take_event(&mut self, event: Event) -> Reply {
+        match event {
+            Event::Start => self.command = self.command.start(),
+            Event::Stop => self.stop(),
+            Event::Byte(value) => return self.byte(value),
+            Event::Take { .. } => return self.take(),
+            Event::Pins(levels) => self.pins(levels),
+            Event::Tick => self.tick(),
+            Event::Reset { straps, levels } => *self = Controller::reset(straps, levels),
+            Event::Timeout => self.command = Command::Idle,
+        }
+        Reply::None
+    }
+
+    fn reset(straps: u8, levels: u8) -> Controller {
+        let lock_pulses = straps & 1 != 0;
+        let lock = !lock_pulses && straps & 2 != 0;
+        Controller {
+            started: true,
+            write_address: BASE_ADDRESS + 2 * (straps >> 2),
+            lock_pulses,
+            bays: [Bay::reset(levels >> 4, lock), Bay::reset(levels & 0x0F, lock)],
+            ..Controller::new()
+        }
+    }
+
+    fn stop(&mut self) {
+        if let Command::Data { register, value } = self.command {
+            self.write(register, value);
+        }
+        self.command = Command::Idle;
+    }
+
+    /// A byte goes on with the command or ends it, and is acknowledged exactly in the first case.
+    fn byte(&mut self, value: u8) -> Reply {
+        self.command = match self.command {
+            Command::Opened if value == self.write_address => Command::Addressed,
+            Command::Addressed => Command::Register(value),
+            Command::Register(register) => Command::Data { register, value },
+            // The value is fixed here; what the pins do before the TAKE no longer matters.
+            Command::Restarted(register) if value == self.write_address + 1 => Command::Driving(self.reading(register)),
+            _ => Command::Idle,
+        };
+        if self.command == Command::Idle {
+            Reply::NoAck
+        } else {
+            Reply::Ack
+        }
+    }
+
+    fn take(&mut self) -> Reply {
+        let reply = match self.command {
+            Command::Driving(value) => Reply::Driven(value),
+            _ => Reply::NotDriven,
+        };
+        self.command = Command::Idle;
+        reply
+    }
+
+    fn bay1_closed(&self) -> bool {
+        self.capabilities & BAY_COUNT_BITS == 1
+    }
+
+    fn open_bays(&self) -> &[Bay] {
+        let open = if self.bay1_closed() { 1 } else { 2 };
+        &self.bays[..open]
+    }
+
+    fn open_bays_mut(&mut self) -> &mut [Bay] {
+        let open = if self.bay1_closed() { 1 } else { 2 };
+        &mut self.bays[..open]
+    }
+
+    fn pins(&mut self, levels: u8) {
+        let by_bay = [levels >> 4, levels & 0x0F];
+        for (bay, levels) in self.open_bays_mut().iter_mut().zip(by_bay) {
+            bay.pins(levels);
+        }
+    }
+
+    fn tick(&mut self) {
+        self.open_bays_mut().iter_mut().for_each(Bay::tick);
+        self.phase = (self.phase + 1) % PHASES;
+    }
+
+    /// What a register reads; before the first RESET, 0.
+    pub fn reading(&self, address: u8) -> u8 {
+        if !self.started {
+            return 0;
+        }
+        match address {
+            0x00 => 0x55,
+            0x01 => 0x10,
+            0x04 => 0x01,
+            DBCCR => self.capabilities,
+            LETR => self.lock_time,
+            _ => self.bay_reading(address),
+        }
+    }
+
+    fn bay_reading(&self, address: u8) -> u8 {
+        for (index, bay) in self.open_bays().iter().enumerate() {
+            if address == BSTR[index] {
+                return bay.status();
+            }
+            if address == BCER[index] {
+                return bay.control();
+            }
+        }
+        0
+    }
+
+    fn write(&mut self, address: u8, value: u8) {
+        match address {
+            DBCCR => self.write_capabilities(value),
+            LETR => self.lock_time = value & LETR_BITS,
+            _ => self.write_bay(address, value),
+        }
+    }
+
+    /// Only the first write after a RESET counts, whatever it writes.
+    fn write_capabilities(&mut self, value: u8) {
+        if self.capabilities_written {
+            return;
+        }
+        self.capabilities_written = true;
+        self.capabilities = value & DBCCR_BITS;
+        if self.bay1_closed() {
+            self.bays[1] = Bay::empty();
+        }
+    }
+
+    fn write_bay(&mut self, address: u8, value: u8) {
+        let pulse = if self.lock_pulses { PULSE_TICKS[usize::from(self.lock_time)] } else { 0 };
+        for (index, bay) in self.open_bays_mut().iter_mut().enumerate() {
+            if address == BSTR[index] {
+                bay.write_status(value);
+            }
+            if address == BCER[index] {
+                bay.write_control(value, pulse);
+            }
+        }
+    }
+
+    /// The nine outputs, bit 8 to 0; before the first RESET, 0.
+    pub fn outputs(&self) -> u16 {
+        if !self.started {
+            return 0;
+        }
+        let mut outputs = 0;
+        for (bay, place) in self.open_bays().iter().zip([5, 1]) {
+            outputs |= bay.outputs(self.lock_pulses, self.phase) << place;
+            outputs |= u16::from(bay.interrupts());
+        }
+        outputs
+    }
+}

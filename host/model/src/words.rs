@@ -1,0 +1,33 @@
+//! Event words by name, for whoever writes lists of them.
+
+pub const START: u16 = 0x0000;
+pub const STOP: u16 = 0x2000;
+pub const TICK: u16 = 0xA000;
+pub const TIMEOUT: u16 = 0xE000;
+
+pub const fn byte(value: u8) -> u16 {
+    0x4000 | value as u16
+}
+
+pub const fn take(ack: bool) -> u16 {
+    0x6000 | ack as u16
+}
+
+pub const fn pins(levels: u8) -> u16 {
+    0x8000 | levels as u16
+}
+
+/// Only the low four bits of the straps are looked at.
+pub const fn reset(straps: u8, levels: u8) -> u16 {
+    0xC000 | (straps as u16 & 0x0F) << 8 | levels as u16
+}
+
+/// A whole write; `own` is the controller's address byte for writing.
+pub const fn write(own: u8, register: u8, value: u8) -> [u16; 5] {
+    [START, byte(own), byte(register), byte(value), STOP]
+}
+
+/// A whole read; `own` is the controller's address byte for writing.
+pub const fn read(own: u8, register: u8) -> [u16; 6] {
+    [START, byte(own), byte(register), START, byte(own | 1), take(false)]
+}
