@@ -5,4 +5,5 @@ pub mod Fit
 pub mod Sound
 pub mod Refusals
 pub mod Laws
+pub mod Decided
 pub mod Determined
