@@ -7,7 +7,6 @@ use mathlib.Core.Logic.{_↔_, _≢_}
 use mathlib.Core.Bool.{Bool, true, false, not, cond, _&&_, _||_, true≢false, false≢true, and-false}
 use mathlib.Core.List.{List, [], _∷_}
 use lib.Dec.{eqb}
-use borrow.Author.Tests.{eqb-true, not-false}
 use Rattle.event.specs.Words.{unpacked, StrayBitSet}
 use Rattle.event.specs.declared.Event.{Event}
 use Rattle.event.specs.declared.Event.the-variants.{Start, Stop, Byte, Take, Pins, Tick, Reset, Timeout}
@@ -25,7 +24,7 @@ use Rattle.bus.specs.declared.Progress.the-variants.{Data}
 use Rattle.bus.specs.declared.Reply.the-variants.{Nothing}
 use Rattle.dock.specs.Record.{bayAt, withBay, isOpen, fits, lockMode, freshController}
 use Rattle.dock.specs.Outputs.{nibble, wants, outputsOf}
-use Rattle.dock.specs.Registers.{bstrAt, bcerAt, register, readingOf, pulseTicks, dbccrStored, dbccrWrite, letrWrite, bstrWrite, bcerWrite, written}
+use Rattle.dock.specs.Registers.{bstrAt, bcerAt, register, readingOf, pulseTicks, bstrWrite, bcerWrite, written}
 use Rattle.dock.specs.Events.{sampledAt, tickedAt, pinsTo, tickTo, withProgress, ended, stopAt, stopTo, actedOn}
 use Rattle.dock.specs.Answers.{refusalOf}
 use Rattle.dock.specs.Step.{takes, stepFit, stepOf, done, refused}
@@ -36,8 +35,8 @@ use Rattle.dock.specs.declared.Answer.{Answer}
 use Rattle.dock.specs.declared.Answer.the-variants.{Done, Unfit, StrayBit, NotStarted}
 use Rattle.dock.specs.declared.Stepped.{Stepped}
 use Rattle.dock.proofs.Bays.{put-bay, other-kept}
-use Rattle.dock.proofs.Choice.{chosen}
-use Rattle.dock.proofs.Kept.{by-address, step-keeps}
+use Rattle.dock.proofs.Choice.{passed}
+use Rattle.dock.proofs.Kept.{step-keeps}
 use Rattle.dock.proofs.Fit.{fresh-fit, fits-kept}
 use Rattle.dock.proofs.Sound.{reached-sound}
 
@@ -53,17 +52,17 @@ pub fresh-is : Fresh freshController
 unfolding freshController outputsOf readingOf
 fresh-is = record { fit = fresh-fit; not-started = refl; outputs-0 = refl; registers-0 = λ a. refl }
 
+-- A state not started has outputs 000 and every register reads 0, fresh or not.
+pub silent-before-reset : (s : Controller) → s .started ≡ false → (outputsOf s ≡ 0) × ((a : ℕ) → readingOf s a ≡ 0)
+unfolding outputsOf readingOf
+silent-before-reset s f = (passed f _ _, λ a. passed f _ _)
+
 -- ---- a step from a fit state gives a fit state
 
 pub step-fit : (s : Controller) (w : ℕ) → fits s ≡ true → fits (stepOf s w .controller) ≡ true
 step-fit = step-keeps (λ s. fits s ≡ true) fits-kept
 
 -- ---- a closed bay
-
--- Bay 1 is closed exactly while the stored count is 1.
-pub closed-exactly : (s : Controller) → (isOpen s 1 ≡ false) ↔ (s .«bay_count» ≡ 1)
-unfolding isOpen
-closed-exactly s = (λ o. eqb-true _ _ (not-false (eqb (s .«bay_count») 1) o), λ e. rw e)
 
 -- PINS and TICK pass it by, 18h and 1Ch read 0 and take no write, its outputs are 0.
 pub record PassedBy (s : Controller) : Type 0 where
@@ -93,29 +92,6 @@ closed-bay s o =
     either : (b : Bool) → _≡_ {A = ℕ} (cond b 0 0) 0
     either true = refl
     either false = refl
-
--- ---- DBCCR counts once
-
--- Whatever is written first, even 0, DBCCR is written from then on ..
-pub dbccr-marked : (v : ℕ) (s : Controller) → written 0x0C v s .«dbccr_written» ≡ true
-unfolding written dbccrWrite dbccrStored
-dbccr-marked v s = pick (λ (t : Controller). t .«dbccr_written» ≡ true) (s .«dbccr_written») (λ d. d) (λ d. refl)
-
--- .. and then no write to any address alters it.
-pub record DbccrKept (before after : Controller) : Type 0 where
-  pub marked : after .«dbccr_written» ≡ true
-  pub seclock : after .seclock ≡ before .seclock
-  pub bay-count : after .«bay_count» ≡ before .«bay_count»
-
-pub dbccr-once : (a v : ℕ) (s : Controller) → s .«dbccr_written» ≡ true → DbccrKept s (written a v s)
-unfolding dbccrWrite letrWrite bstrWrite bcerWrite withBay
-dbccr-once a v s d =
-    by-address (DbccrKept s) a v s (rw (chosen d) same) (record { marked = d; seclock = refl; bay-count = refl })
-    (λ i. pick (DbccrKept s) (isOpen s i) (λ o. record { marked = d; seclock = refl; bay-count = refl }) (λ o. same))
-    (λ i. pick (DbccrKept s) (isOpen s i) (λ o. record { marked = d; seclock = refl; bay-count = refl }) (λ o. same)) same
-  where
-    same : DbccrKept s s
-    same = record { marked = d; seclock = refl; bay-count = refl }
 
 -- ---- one bay's registers leave the other bay alone
 

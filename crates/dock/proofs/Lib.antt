@@ -5,5 +5,6 @@ pub mod Fit
 pub mod Sound
 pub mod Refusals
 pub mod Laws
-pub mod Decided
 pub mod Determined
+pub mod Decided
+pub mod Dbccr
