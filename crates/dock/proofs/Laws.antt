@@ -35,6 +35,7 @@ use Rattle.dock.specs.declared.Answer.{Answer}
 use Rattle.dock.specs.declared.Answer.the-variants.{Done, Unfit, StrayBit, NotStarted}
 use Rattle.dock.specs.declared.Stepped.{Stepped}
 use Rattle.dock.proofs.Bays.{put-bay, other-kept}
+use Rattle.dock.proofs.Choice.{passed}
 use Rattle.dock.proofs.Kept.{step-keeps}
 use Rattle.dock.proofs.Fit.{fresh-fit, fits-kept}
 use Rattle.dock.proofs.Sound.{reached-sound}
@@ -50,6 +51,11 @@ pub record Fresh (s : Controller) : Type 0 where
 pub fresh-is : Fresh freshController
 unfolding freshController outputsOf readingOf
 fresh-is = record { fit = fresh-fit; not-started = refl; outputs-0 = refl; registers-0 = λ a. refl }
+
+-- A state not started has outputs 000 and every register reads 0, fresh or not.
+pub silent-before-reset : (s : Controller) → s .started ≡ false → (outputsOf s ≡ 0) × ((a : ℕ) → readingOf s a ≡ 0)
+unfolding outputsOf readingOf
+silent-before-reset s f = (passed f _ _, λ a. passed f _ _)
 
 -- ---- a step from a fit state gives a fit state
 

@@ -8,3 +8,5 @@ pub mod Run
 pub mod Ranges
 pub mod Laws
 pub mod Determined
+pub mod Decided
+pub mod Dbccr

@@ -1,0 +1,93 @@
+// Two states, field by field.
+use bay::Bay;
+use bus::Progress;
+use dock::Controller;
+
+fn kind(p: Progress) -> u8 {
+    match p {
+        Progress::Idle => 0,
+        Progress::Opened => 1,
+        Progress::Addressed => 2,
+        Progress::Register(_) => 3,
+        Progress::Data {
+            register: _,
+            value: _,
+        } => 4,
+        Progress::Again(_) => 5,
+        Progress::Reading(_) => 6,
+    }
+}
+
+// The first number that a progress holds, 0 where it holds none.
+fn first(p: Progress) -> u8 {
+    match p {
+        Progress::Register(register) => register,
+        Progress::Data { register, value: _ } => register,
+        Progress::Again(register) => register,
+        Progress::Reading(value) => value,
+        _ => 0,
+    }
+}
+
+fn second(p: Progress) -> u8 {
+    match p {
+        Progress::Data { register: _, value } => value,
+        _ => 0,
+    }
+}
+
+fn same_progress(a: Progress, b: Progress) -> bool {
+    (kind(a) == kind(b)) & (first(a) == first(b)) & (second(a) == second(b))
+}
+
+fn same_levels(a: [bool; Bay::INPUTS], b: [bool; Bay::INPUTS]) -> bool {
+    (a[0] == b[0]) & (a[1] == b[1]) & (a[2] == b[2])
+}
+
+fn same_counts(a: [u8; Bay::INPUTS], b: [u8; Bay::INPUTS]) -> bool {
+    (a[0] == b[0]) & (a[1] == b[1]) & (a[2] == b[2])
+}
+
+fn same_inputs(a: Bay, b: Bay) -> bool {
+    let levels = a.levels;
+    let accepted = a.accepted;
+    let counts = a.counts;
+    let other_levels = b.levels;
+    let other_accepted = b.accepted;
+    let other_counts = b.counts;
+    same_levels(levels, other_levels)
+        & same_levels(accepted, other_accepted)
+        & same_counts(counts, other_counts)
+}
+
+pub(crate) fn same_bay(a: Bay, b: Bay) -> bool {
+    same_inputs(a, b)
+        & (a.n_sl == b.n_sl)
+        & (a.state == b.state)
+        & (a.remreq_sts == b.remreq_sts)
+        & (a.devstschg == b.devstschg)
+        & (a.lock_ctl == b.lock_ctl)
+        & (a.request == b.request)
+        & (a.remreq_en == b.remreq_en)
+        & (a.devstschg_en == b.devstschg_en)
+        & (a.remevtwak_en == b.remevtwak_en)
+        & (a.pwr_ctl == b.pwr_ctl)
+        & (a.pulse == b.pulse)
+}
+
+pub(crate) fn same(a: Controller, b: Controller) -> bool {
+    let progress = a.progress;
+    let other_progress = b.progress;
+    let bays = a.bays;
+    let other_bays = b.bays;
+    (a.started == b.started)
+        & (a.straps == b.straps)
+        & (a.dbccr_written == b.dbccr_written)
+        & (a.seclock == b.seclock)
+        & (a.bay_count == b.bay_count)
+        & (a.lock_time == b.lock_time)
+        & (a.phase == b.phase)
+        & same_progress(progress, other_progress)
+        & same_bay(bays[0], other_bays[0])
+        & same_bay(bays[1], other_bays[1])
+}
