@@ -8,7 +8,7 @@ use lib.Dec.{eqb}
 use borrow.Author.Tests.{eqb-true, not-false}
 use Rattle.bay.proofs.Taut.{pick}
 use Rattle.dock.specs.Record.{isOpen, withBay}
-use Rattle.dock.specs.Registers.{dbccrStored, dbccrWrite, letrWrite, bstrWrite, bcerWrite, written}
+use Rattle.dock.specs.Registers.{dbccrStored, dbccrWrite, letrWrite, bstrWrite, bcerWrite, written, writes}
 use Rattle.dock.specs.declared.Controller.{Controller}
 use Rattle.dock.proofs.Choice.{chosen}
 use Rattle.dock.proofs.Kept.{by-address}
@@ -20,7 +20,7 @@ closed-exactly s = (λ o. eqb-true _ _ (not-false (eqb (s .«bay_count») 1) o),
 
 -- Whatever is written to DBCCR, even 0, it is written from then on ..
 pub dbccr-marked : (v : ℕ) (s : Controller) → written 0x0C v s .«dbccr_written» ≡ true
-unfolding written dbccrWrite dbccrStored
+unfolding written writes dbccrWrite dbccrStored
 dbccr-marked v s = pick (λ (t : Controller). t .«dbccr_written» ≡ true) (s .«dbccr_written») (λ d. d) (λ d. refl)
 
 -- .. and once it is, no write to any address alters it.

@@ -18,7 +18,7 @@ use Rattle.bus.specs.declared.Progress.the-variants.{Idle, Opened, Addressed, R
 use Rattle.bus.specs.declared.Heard.{Heard}
 use Rattle.bus.specs.declared.Heard.the-variants.{On, Read, End}
 use Rattle.dock.specs.Record.{freshController, fits, isOpen, withBay}
-use Rattle.dock.specs.Registers.{dbccrStored, dbccrWrite, letrWrite, bstrWrite, bcerWrite, written}
+use Rattle.dock.specs.Registers.{dbccrStored, dbccrWrite, letrWrite, bstrWrite, bcerWrite, written, writes}
 use Rattle.dock.specs.Events.{resetTo, pinsTo, tickTo, withProgress, startTo, stopAt, stopTo, byteAt, byteTo, takeAt, takeTo, actedOn}
 use Rattle.dock.specs.Step.{takes, stepFit, stepOf, done, refused}
 use Rattle.dock.specs.Run.{after, Reached}
@@ -31,7 +31,7 @@ use Rattle.dock.specs.declared.Stepped.{Stepped}
 pub by-address :
     (P : Controller → Type 0) (a v : ℕ) (s : Controller)
     → P (dbccrWrite v s) → P (letrWrite v s) → ((i : ℕ) → P (bstrWrite i v s)) → ((i : ℕ) → P (bcerWrite i v s)) → P s → P (written a v s)
-unfolding written
+unfolding written writes
 by-address P a v s d l t c n =
     pick P (eqb a 0x0C) (λ e. d)
     (λ e. pick P (eqb a 0x10) (λ e. t 0)
@@ -98,17 +98,18 @@ module _ (P : Controller → Type 0) (kept : Kept P) where
   first-keeps s (Reset straps levels) k l = kept .by-reset straps levels l
   first-keeps s Timeout k l = absurd (false≢true k)
 
-  act-keeps : (s : Controller) (e : Event) → strapsOf e ≤ 15 → takes (s .started) e ≡ true → P s → P (actedOn s e .controller)
+  -- Before the first RESET nothing need hold.
+  pub act-keeps : (s : Controller) (e : Event) → strapsOf e ≤ 15 → takes (s .started) e ≡ true → (s .started ≡ true → P s) → P (actedOn s e .controller)
   act-keeps s e l k h = go (s .started) refl k
     where
       go : (b : Bool) → s .started ≡ b → takes b e ≡ true → P (actedOn s e .controller)
-      go true t k = started-keeps s t h e l
+      go true t k = started-keeps s t (h t) e l
       go false t k = first-keeps s e k l
 
   word-keeps : (s : Controller) (u : Unpacked) → ((e : Event) → u ≡ Accepted e → strapsOf e ≤ 15) → P s → P (stepFit s u .controller)
   word-keeps s NoEvent l h = h
   word-keeps s (Accepted e) l h =
-      pick (λ (x : Stepped). P (x .controller)) (takes (s .started) e) (λ k. act-keeps s e (l e refl) k h) (λ k. h)
+      pick (λ (x : Stepped). P (x .controller)) (takes (s .started) e) (λ k. act-keeps s e (l e refl) k (λ t. h)) (λ k. h)
 
   pub step-keeps : (s : Controller) (w : ℕ) → P s → P (stepOf s w .controller)
   unfolding stepOf
@@ -121,3 +122,18 @@ module _ (P : Controller → Type 0) (kept : Kept P) where
 
   pub reached-keeps : (s : Controller) → P freshController → Reached s → P s
   reached-keeps s h r = subst P (r .by) (run-keeps freshController (r .words) h)
+
+-- A controller that has taken an event is started.
+started-kept : Kept (λ s. s .started ≡ true)
+unfolding resetTo pinsTo tickTo withProgress
+started-kept =
+    record {
+      by-reset = λ straps levels l. refl;
+      by-bus = λ p s t h. h;
+      by-write = λ a v s t h. write-started a v s ∙ h;
+      by-pins = λ levels s t h. h;
+      by-tick = λ s t h. h;
+    }
+
+pub acted-started : (s : Controller) (e : Event) → strapsOf e ≤ 15 → takes (s .started) e ≡ true → actedOn s e .controller .started ≡ true
+acted-started s e l k = act-keeps (λ s. s .started ≡ true) started-kept s e l k (λ t. t)

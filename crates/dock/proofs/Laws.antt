@@ -24,7 +24,7 @@ use Rattle.bus.specs.declared.Progress.the-variants.{Data}
 use Rattle.bus.specs.declared.Reply.the-variants.{Nothing}
 use Rattle.dock.specs.Record.{bayAt, withBay, isOpen, fits, lockMode, freshController}
 use Rattle.dock.specs.Outputs.{nibble, wants, outputsOf}
-use Rattle.dock.specs.Registers.{bstrAt, bcerAt, register, registers, readingOf, pulseTicks, bstrWrite, bcerWrite, written}
+use Rattle.dock.specs.Registers.{bstrAt, bcerAt, register, registers, readingOf, pulseTicks, bstrWrite, bcerWrite, written, writes}
 use Rattle.dock.specs.Events.{sampledAt, tickedAt, pinsTo, tickTo, withProgress, ended, stopAt, stopTo, actedOn}
 use Rattle.dock.specs.Answers.{refusalOf}
 use Rattle.dock.specs.Step.{takes, stepFit, stepOf, done, refused}
@@ -76,7 +76,7 @@ pub record PassedBy (s : Controller) : Type 0 where
   pub wants-none : wants s 1 ≡ false
 
 pub closed-bay : (s : Controller) → isOpen s 1 ≡ false → PassedBy s
-unfolding pinsTo tickTo bayAt sampledAt tickedAt readingOf register registers bstrAt bcerAt written bstrWrite bcerWrite nibble wants
+unfolding pinsTo tickTo bayAt sampledAt tickedAt readingOf register registers bstrAt bcerAt written writes bstrWrite bcerWrite nibble wants
 closed-bay s o =
     record {
       pins = λ levels. rw o;
@@ -110,7 +110,7 @@ pub record Apart (v : ℕ) (s : Controller) : Type 0 where
   pub bcer1 : bayAt (written 0x1C v s) 0 ≡ bayAt s 0
 
 pub writes-apart : (v : ℕ) (s : Controller) → Apart v s
-unfolding written
+unfolding written writes
 writes-apart v s =
     record { bstr0 = bstr-apart 0 1 v s refl; bcer0 = bcer-apart 0 1 v s refl; bstr1 = bstr-apart 1 0 v s refl; bcer1 = bcer-apart 1 0 v s refl }
 

@@ -101,15 +101,17 @@ unfoldable pub bcerWrite : ℕ → ℕ → Controller → Controller
 bcerWrite i v s =
     cond (isOpen s i) (withBay i (controlledBay (controlOf v) (lockMode (s .straps)) (pulseTicks (s .«lock_time»)) (bayAt s i)) s) s
 
--- A whole write. At every other address it is without effect.
-unfoldable pub written : ℕ → ℕ → Controller → Controller
-written a v s =
-    find a
-    (at 0x0C (dbccrWrite v s)
+-- What a write does, by address.
+unfoldable pub writes : ℕ → Controller → List (Row Controller)
+writes v s =
+    at 0x0C (dbccrWrite v s)
     ∷ at 0x10 (bstrWrite 0 v s)
     ∷ at 0x14 (bcerWrite 0 v s)
     ∷ at 0x18 (bstrWrite 1 v s)
     ∷ at 0x1C (bcerWrite 1 v s)
     ∷ at 0x40 (letrWrite v s)
-    ∷ [])
-    s
+    ∷ []
+
+-- A whole write. At every other address it is without effect.
+unfoldable pub written : ℕ → ℕ → Controller → Controller
+written a v s = find a (writes v s) s

@@ -1,0 +1,4 @@
+pub mod Apart
+pub mod Commands
+pub mod Follows
+pub mod Demand3

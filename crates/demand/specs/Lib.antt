@@ -1,0 +1,4 @@
+pub mod Plain
+pub mod Commands
+pub mod Follow
+pub mod Words
