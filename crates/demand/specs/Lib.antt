@@ -2,3 +2,4 @@ pub mod Plain
 pub mod Commands
 pub mod Follow
 pub mod Words
+pub mod Examples
