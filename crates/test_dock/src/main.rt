@@ -2,172 +2,43 @@
 // shuts out, every refusal of the single call and of the two questions, states that are fit though no event reaches
 // them, and each field at the end of its range. It prints what was done, in the paper's notation, and what came back.
 mod compare;
+mod events;
 mod show;
+mod states;
 
 use bay::Bay;
 use bus::Progress;
 use compare::same;
 use compare::same_bay;
 use dock::Controller;
+use events::byte;
+use events::event;
+use events::pins;
+use events::reset;
+use events::start;
+use events::stop;
+use events::take;
+use events::ten_ticks;
+use events::tick;
+use events::write;
 use show::answer;
 use show::decimal;
 use show::drives;
 use show::given_back;
-use show::hex;
+use show::line;
 use show::put;
 use show::reads;
-use show::reply;
 use show::word;
-
-// ---- events, each with its reply
-
-fn stepped(c: Controller, w: u16) -> Controller {
-    let s = c.step(w);
-    let a = s.answer;
-    reply(a);
-    s.controller
-}
-
-// A RESET word, to a fresh controller.
-fn reset(w: u16) -> Controller {
-    put(b"RESET ");
-    word(w);
-    stepped(Controller::fresh(), w)
-}
-
-fn event(c: Controller, name: &[u8], w: u16) -> Controller {
-    put(b" ");
-    put(name);
-    stepped(c, w)
-}
-
-fn byte(c: Controller, value: u8) -> Controller {
-    put(b" ");
-    hex(value);
-    stepped(c, 0x4000 + value as u16)
-}
-
-fn start(c: Controller) -> Controller {
-    event(c, b"START", 0x0000)
-}
-
-fn stop(c: Controller) -> Controller {
-    event(c, b"STOP", 0x2000)
-}
-
-fn take(c: Controller) -> Controller {
-    event(c, b"TAKE", 0x6000)
-}
-
-fn tick(c: Controller) -> Controller {
-    event(c, b"TICK", 0xA000)
-}
-
-fn ten_ticks(c: Controller) -> Controller {
-    tick(tick(tick(tick(tick(tick(tick(tick(tick(tick(c))))))))))
-}
-
-fn pins(c: Controller, levels: u8) -> Controller {
-    put(b" PINS ");
-    hex(levels);
-    stepped(c, 0x8000 + levels as u16)
-}
-
-fn next(c: Controller, w: u16) -> Controller {
-    c.step(w).controller
-}
-
-// A whole write, with no word of its replies.
-fn write(c: Controller, register: u8, value: u8) -> Controller {
-    put(b", w ");
-    hex(register);
-    put(b"=");
-    hex(value);
-    let opened = next(next(c, 0x0000), 0x4090);
-    let addressed = next(opened, 0x4000 + register as u16);
-    next(next(addressed, 0x4000 + value as u16), 0x2000)
-}
-
-fn line() {
-    put(b"\n");
-}
-
-// ---- states that no event makes
-
-fn with_phase(mut c: Controller, phase: u8) -> Controller {
-    c.phase = phase;
-    c
-}
-
-fn with_straps(mut c: Controller, straps: u8) -> Controller {
-    c.straps = straps;
-    c
-}
-
-fn with_lock_time(mut c: Controller, lock_time: u8) -> Controller {
-    c.lock_time = lock_time;
-    c
-}
-
-fn with_bay_count(mut c: Controller, bay_count: u8) -> Controller {
-    c.bay_count = bay_count;
-    c
-}
-
-fn bay(c: Controller, i: u8) -> Bay {
-    let bays = c.bays;
-    if i == 0 { bays[0] } else { bays[1] }
-}
-
-fn with_bay(mut c: Controller, i: u8, b: Bay) -> Controller {
-    let bays = c.bays;
-    let first = bays[0];
-    let second = bays[1];
-    let pair = if i == 0 { [b, second] } else { [first, b] };
-    c.bays = pair;
-    c
-}
-
-fn with_state(c: Controller, i: u8, state: u8) -> Controller {
-    let mut b = bay(c, i);
-    b.state = state;
-    with_bay(c, i, b)
-}
-
-fn with_request(c: Controller, i: u8, request: u8) -> Controller {
-    let mut b = bay(c, i);
-    b.request = request;
-    with_bay(c, i, b)
-}
-
-fn with_pulse(c: Controller, i: u8, pulse: u8) -> Controller {
-    let mut b = bay(c, i);
-    b.pulse = pulse;
-    with_bay(c, i, b)
-}
-
-fn with_counts(c: Controller, i: u8, n1394: u8, nusb: u8, nremreq: u8) -> Controller {
-    let mut b = bay(c, i);
-    b.counts = [n1394, nusb, nremreq];
-    with_bay(c, i, b)
-}
-
-fn with_progress(c: Controller, progress: Progress) -> Controller {
-    let bays = c.bays;
-    Controller {
-        started: c.started,
-        straps: c.straps,
-        dbccr_written: c.dbccr_written,
-        seclock: c.seclock,
-        bay_count: c.bay_count,
-        lock_time: c.lock_time,
-        phase: c.phase,
-        progress,
-        bays,
-    }
-}
-
-// ---- what is run
+use states::bay;
+use states::with_bay_count;
+use states::with_counts;
+use states::with_lock_time;
+use states::with_phase;
+use states::with_progress;
+use states::with_pulse;
+use states::with_request;
+use states::with_state;
+use states::with_straps;
 
 fn two_data_bytes() {
     let c = byte(byte(start(reset(0xC0BF)), 0x90), 0x14);

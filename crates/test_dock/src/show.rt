@@ -8,6 +8,11 @@ pub(crate) fn put(text: &[u8]) {
     io::write_all(OUT, text);
 }
 
+// The end of a line.
+pub(crate) fn line() {
+    put(b"\n");
+}
+
 pub(crate) fn decimal(n: u8) {
     io::print_decimal(OUT, n as u64);
 }
