@@ -36,7 +36,6 @@ fields-back r p b o hr hp hb ho = rw (first, second, third, fourth)
 
 -- An answer is the one with its numbers.
 reply-back : (r : Reply) (o : ℕ) → answerBy 0 (replyNumber r) (replyByte r) o ≡ Done r o
-unfolding replyNumber replyByte
 reply-back Nothing o = refl
 reply-back Ack o = refl
 reply-back NoAck o = refl
@@ -44,14 +43,12 @@ reply-back (Driven v) o = refl
 reply-back NotDriven o = refl
 
 answer-back : (a : Answer) → answerBy (refusalOf a) (replyOf a) (byteOf a) (outputsIn a) ≡ a
-unfolding refusalOf replyOf byteOf outputsIn
 answer-back (Done r o) = reply-back r o
 answer-back Unfit = refl
 answer-back (StrayBit o) = refl
 answer-back NotStarted = refl
 
 reply-small : (r : Reply) → replyNumber r < 8
-unfolding replyNumber
 reply-small Nothing = omega arith
 reply-small Ack = omega arith
 reply-small NoAck = omega arith
@@ -59,7 +56,6 @@ reply-small (Driven v) = omega arith
 reply-small NotDriven = omega arith
 
 numbers-small : (a : Answer) → (refusalOf a < 16) × (replyOf a < 8)
-unfolding refusalOf replyOf
 numbers-small (Done r o) = (omega arith, reply-small r)
 numbers-small Unfit = omega arith
 numbers-small (StrayBit o) = omega arith

@@ -52,7 +52,7 @@ pub record Alone (s : Controller) (ws buffer : List ℕ) (r : Batched) (written 
 pub alone-or-batched :
     (s : Controller) (ws buffer : List ℕ) (n : ℕ) → outcomeOf s (length ws) (length buffer) ≡ Done n
     → Alone s ws buffer (batchOf s ws (length buffer)) (bufferAfter s ws buffer)
-unfolding batchOf bufferAfter outcomeCount recordsOf
+unfolding batchOf bufferAfter recordsOf
 alone-or-batched s ws buffer n e =
     rw e
     (record {

@@ -4,14 +4,14 @@ use Prim.Native.Nat.{ℕ}
 use Rattle.bus.specs.declared.Reply.{Reply}
 use Rattle.bus.specs.declared.Reply.the-variants.{Nothing, Ack, NoAck, Driven, NotDriven}
 
-unfoldable pub replyNumber : Reply → ℕ
+abbrev pub replyNumber : Reply → ℕ
 replyNumber Nothing = 0
 replyNumber Ack = 1
 replyNumber NoAck = 2
 replyNumber (Driven v) = 3
 replyNumber NotDriven = 4
 
-unfoldable pub replyByte : Reply → ℕ
+abbrev pub replyByte : Reply → ℕ
 replyByte Nothing = 0
 replyByte Ack = 0
 replyByte NoAck = 0

@@ -23,7 +23,7 @@ use Rattle.dock.specs.declared.Stepped.{Stepped}
 
 -- A refused word leaves the state as it came.
 pub refused-unchanged : (s : Controller) (w : ℕ) → refusalOf (stepOf s w .answer) ≢ 0 → stepOf s w .controller ≡ s
-unfolding stepOf refusalOf
+unfolding stepOf
 refused-unchanged s w = pick Unchanged (fits s) (λ f. by-word (unpacked w)) (λ f n. refl)
   where
     Unchanged : Stepped → Type 0
@@ -99,7 +99,7 @@ module _ (s : Controller) (w : ℕ) where
       }
 
   by-event : fits s ≡ true → (StrayBitSet w → ⊥) → (e : Event) → unpacked w ≡ Accepted e → Exactly s w (refusalOf (stepFit s (Accepted e) .answer))
-  unfolding refusalOf Taken
+  unfolding Taken
   by-event f b e p =
       pick (λ (x : Stepped). Exactly s w (refusalOf (x .answer))) (takes (s .started) e) (λ k. accepted f b (reset-word (taken _ e k))) (λ k. refused-early k)
     where
@@ -121,11 +121,10 @@ module _ (s : Controller) (w : ℕ) where
           not-started false t = t
 
   by-word : fits s ≡ true → (u : Unpacked) → unpacked w ≡ u → Exactly s w (refusalOf (stepFit s u .answer))
-  unfolding refusalOf
   by-word f NoEvent p = stray f (words-refused w .0 p)
   by-word f (Accepted e) p = by-event f (λ b. accepted-is-none (sym p ∙ words-refused w .1 b)) e p
 
   -- Each refusal is given exactly when the table says.
   pub exactly : Exactly s w (refusalOf (stepOf s w .answer))
-  unfolding stepOf refusalOf
+  unfolding stepOf
   exactly = pick (λ (x : Stepped). Exactly s w (refusalOf (x .answer))) (fits s) (λ f. by-word f (unpacked w) refl) (λ f. unfit f)

@@ -16,7 +16,7 @@ use Rattle.batch.specs.Outcome.{outcomeRefusal, outcomeCount}
 use Rattle.batch.specs.declared.Outcome.{Outcome}
 
 pub count-most : (s : Controller) (words bytes : ℕ) → (outcomeCount (outcomeOf s words bytes) ≤ 16384) × (outcomeRefusal (outcomeOf s words bytes) ≤ 5)
-unfolding outcomeOf outcomeCount outcomeRefusal
+unfolding outcomeOf
 count-most s words bytes =
     pick Small (fits s)
     (λ f. pick Small (ltb 16384 words) (λ m. omega arith)
