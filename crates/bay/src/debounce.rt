@@ -12,23 +12,23 @@ pub(crate) fn debounced(length: u8, level: bool, accepted: bool, count: u8) -> I
     ensures { λ r. ⌜ r ≡ debounce length level accepted count ⌝ }
 {
     if level == accepted {
-        Input {
+        return Input {
             accepted,
             count,
             settled: false,
-        }
-    } else if count < length - 1 {
-        Input {
+        };
+    }
+    if count < length - 1 {
+        return Input {
             accepted,
             count: count + 1,
             settled: false,
-        }
-    } else {
-        Input {
-            accepted: level,
-            count: 0,
-            settled: true,
-        }
+        };
+    }
+    Input {
+        accepted: level,
+        count: 0,
+        settled: true,
     }
 }
 

@@ -1,6 +1,6 @@
 // What a TICK makes of a bay (document 01, "Bay moves"): at most one move, presence first.
 ghost use mathlib.Core.Path.{_≡_};
-ghost use mathlib.Core.Bool.{cond};
+ghost use mathlib.Core.Bool.{false};
 ghost use Prim.Native.Nat.{_-_};
 ghost use Rattle.bay.specs.Record.{present as Record·present};
 ghost use Rattle.bay.specs.Moves.{tickedBay, movedBay, stateAfter, inUse};
@@ -24,13 +24,10 @@ impl Bay {
         (self.state == Bay::INSERTED) | (self.state == Bay::ENABLED)
     }
 
-    // The one move of a TICK.
-    fn state_after(self, leaves: bool, arrives: bool, pressed: bool) -> u8
-        ensures { λ r. ⌜ r ≡ stateAfter self leaves arrives pressed ⌝ }
+    // The one move of a TICK in which no device leaves.
+    fn state_after(self, arrives: bool, pressed: bool) -> u8
+        ensures { λ r. ⌜ r ≡ stateAfter self false arrives pressed ⌝ }
     {
-        if leaves {
-            return Bay::EMPTY;
-        }
         if arrives & self.devstschg_en {
             return Bay::INSERTED;
         }
@@ -41,40 +38,46 @@ impl Bay {
     }
 
     // What the inputs of a TICK make of the bay.
-    fn moved(self, n1394: Input, nusb: Input, nremreq: Input) -> Bay
+    fn moved(mut self, n1394: Input, nusb: Input, nremreq: Input) -> Bay
         ensures { λ r. ⌜ r ≡ movedBay self n1394 nusb nremreq ⌝ }
     {
         let before = self.present();
         let after = !n1394.accepted | !nusb.accepted;
-        let leaves = before & !after;
+        let changed = n1394.settled | nusb.settled;
         let pressed = nremreq.settled & !nremreq.accepted;
-        let quiet = (self.state == Bay::REMOVAL_ALLOWED) & leaves & !self.remevtwak_en;
-        let levels = self.levels;
-        Bay {
-            levels,
-            accepted: [n1394.accepted, nusb.accepted, nremreq.accepted],
-            counts: [n1394.count, nusb.count, nremreq.count],
-            n_sl: self.n_sl,
-            state: self.state_after(leaves, !before & after, pressed),
-            remreq_sts: self.remreq_sts | pressed,
-            devstschg: self.devstschg | ((n1394.settled | nusb.settled) & !quiet),
-            lock_ctl: self.lock_ctl,
-            request: kept(self.request, leaves),
-            remreq_en: self.remreq_en,
-            devstschg_en: self.devstschg_en,
-            remevtwak_en: self.remevtwak_en,
-            pwr_ctl: self.pwr_ctl & !leaves,
-            pulse: fallen(self.pulse),
+        self.accepted = [n1394.accepted, nusb.accepted, nremreq.accepted];
+        self.counts = [n1394.count, nusb.count, nremreq.count];
+        self.pulse = fallen(self.pulse);
+        if before & !after {
+            let quiet = (self.state == Bay::REMOVAL_ALLOWED) & !self.remevtwak_en;
+            self.state = Bay::EMPTY;
+            self.remreq_sts = self.remreq_sts | pressed;
+            self.devstschg = self.devstschg | (changed & !quiet);
+            self.request = 0;
+            self.pwr_ctl = false;
+            return self;
         }
+        let state = self.state_after(!before & after, pressed);
+        self.state = state;
+        self.remreq_sts = self.remreq_sts | pressed;
+        self.devstschg = self.devstschg | changed;
+        self
     }
 
-    // A TICK.
-    pub fn ticked(self) -> Bay
+    // A TICK. Where every level is the accepted one, as in most ticks, only the pulse falls.
+    pub fn ticked(mut self) -> Bay
         ensures { λ r. ⌜ r ≡ tickedBay self ⌝ }
     {
         let levels = self.levels;
         let accepted = self.accepted;
         let counts = self.counts;
+        let steady = (levels[Bay::N1394] == accepted[Bay::N1394])
+            & (levels[Bay::NUSB] == accepted[Bay::NUSB])
+            & (levels[Bay::NREMREQ] == accepted[Bay::NREMREQ]);
+        if steady {
+            self.pulse = fallen(self.pulse);
+            return self;
+        }
         let n1394 = debounced(
             Bay::TICKS,
             levels[Bay::N1394],
@@ -95,13 +98,6 @@ impl Bay {
         );
         self.moved(n1394, nusb, nremreq)
     }
-}
-
-// The stored request, 0 once the device is gone.
-fn kept(request: u8, leaves: bool) -> u8
-    ensures { λ r. ⌜ r ≡ cond leaves 0 request ⌝ }
-{
-    if leaves { 0 } else { request }
 }
 
 // A pulse above 0 falls by one.

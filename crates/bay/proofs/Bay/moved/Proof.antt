@@ -1,14 +1,26 @@
--- `bay::Bay::moved` meets its contract: each field is what the function for it ensures. Assumes nothing.
+-- `bay::Bay::moved` meets its contract: where the device leaves, and where it doesn't. Assumes nothing.
+use mathlib.Core.Path.{_≡_}
+use mathlib.Core.Bool.{true, false}
 use borrow.Author.Needs.{needs}
-use Rattle.bay.specs.Moves.{movedBay}
+use Rattle.bay.specs.Moves.{leaves, stateAfter, inUse}
+use Rattle.bay.proofs.Ticks.{left, stayed}
 use Rattle.bay.proofs.Bay.moved.Statement.{statement}
 use Rattle.bay.proofs.Bay.moved.Tie as tie
 
 returns : tie.Need-returns
-unfolding movedBay
-returns c = rw (c .fallen .ensures, c .before .before .kept .ensures, c .before .before .before .before .before .before .before .state-after .ensures, c .before .before .before .before .before .before .before .before .before .before .before .before .before .before .before .present .ensures)
+returns c =
+    let a = c .before .before .before .before .before .before .before .before .before .before .before .before .before .before .before .args in
+    let e : leaves (a .self) (a .n1394) (a .nusb) ≡ true = rw (← c .before .before .before .before .before .before .before .before .before .before .before .before .before .before .present .ensures) (c .before .before .before .before .if1 .taken) in
+    rw (left (a .self) (a .n1394) (a .nusb) (a .nremreq) e, c .before .before .before .before .before .fallen .ensures)
+
+returns-2 : tie.Need-returns-2
+unfolding stateAfter inUse
+returns-2 c =
+    let a = c .before .before .before .before .before .before .before .before .before .before .before .before .before .before .args in
+    let e : leaves (a .self) (a .n1394) (a .nusb) ≡ false = rw (← c .before .before .before .before .before .before .before .before .before .before .before .before .before .present .ensures) (c .before .before .before .if1 .left) in
+    rw (stayed (a .self) (a .n1394) (a .nusb) (a .nremreq) e, c .before .before .before .before .fallen .ensures, c .before .before .state-after .ensures, c .before .before .before .before .before .before .before .before .before .before .before .before .before .present .ensures)
 
 pub moved-spec : {M : Type 1} → statement M
 moved-spec =
     tie.close
-    (tie.spec (λ c κs. search needs) (λ c κs. search needs) (λ c κs. search needs) (λ c κs. search needs) returns)
+    (tie.spec (λ c κs. search needs) (λ c κs. search needs) returns (λ c κs. search needs) returns-2)

@@ -11,15 +11,11 @@ returns c = rw (c .if1 .taken)
 
 returns-2 : tie.Need-returns-2
 unfolding stateAfter
-returns-2 c = rw (c .before .before .if1 .left, c .if2 .taken)
+returns-2 c = rw (c .before .before .before .before .if1 .left, ← c .before .in-use .ensures, c .if2 .taken)
 
 returns-3 : tie.Need-returns-3
 unfolding stateAfter
-returns-3 c = rw (c .before .before .before .before .before .before .if1 .left, c .before .before .before .before .if2 .left, ← c .before .in-use .ensures, c .if3 .taken)
-
-returns-4 : tie.Need-returns-4
-unfolding stateAfter
-returns-4 c = rw (c .before .before .before .before .before .before .if1 .left, c .before .before .before .before .if2 .left, ← c .before .in-use .ensures, c .if3 .left)
+returns-3 c = rw (c .before .before .before .before .if1 .left, ← c .before .in-use .ensures, c .if2 .left)
 
 pub state-after-spec : {M : Type 1} → statement M
-state-after-spec = tie.close (tie.spec returns returns-2 (λ c κs. search needs) returns-3 returns-4)
+state-after-spec = tie.close (tie.spec returns (λ c κs. search needs) returns-2 returns-3)

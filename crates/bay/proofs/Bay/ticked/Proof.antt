@@ -1,12 +1,24 @@
--- `bay::Bay::ticked` meets its contract: the three inputs are what `debounced` ensures. Assumes nothing.
+-- `bay::Bay::ticked` meets its contract: of a steady bay only the pulse falls; of another the three inputs are what `debounced`
+-- ensures. Assumes nothing.
+use mathlib.Core.Path.{_≡_}
+use lib.ListN.{length}
+use native.Mathlib.Omega.{arith}
 use borrow.Author.Needs.{needs}
 use Rattle.bay.specs.Moves.{tickedBay}
+use Rattle.bay.proofs.Ticks.{steady}
 use Rattle.bay.proofs.Bay.ticked.Statement.{statement}
 use Rattle.bay.proofs.Bay.ticked.Tie as tie
 
 returns : tie.Need-returns
+returns c =
+    let b = c .before .before .before .before .before .args .self in
+    let la : length (b .accepted) ≡ 3 = search needs in
+    let lc : length (b .counts) ≡ 3 = search needs in
+    rw (steady b la lc (c .before .if1 .taken), c .fallen .ensures)
+
+returns-2 : tie.Need-returns-2
 unfolding tickedBay
-returns c = rw (← c .before .before .before .debounced .ensures, ← c .before .before .debounced2 .ensures, ← c .before .debounced3 .ensures) (c .moved .ensures)
+returns-2 c = rw (← c .before .before .before .debounced .ensures, ← c .before .before .debounced2 .ensures, ← c .before .debounced3 .ensures) (c .moved .ensures)
 
 pub ticked-spec : {M : Type 1} → statement M
 ticked-spec =
@@ -15,6 +27,14 @@ ticked-spec =
     (λ c. search needs)
     (λ c. search needs)
     (λ c. search needs)
+    (λ c. search needs)
+    (λ c. search needs)
+    (λ c. search needs)
+    (λ c κs. search needs)
+    returns
+    (λ c. search needs)
+    (λ c. search needs)
+    (λ c. search needs)
     (λ c κs. search needs)
     (λ c. search needs)
     (λ c. search needs)
@@ -25,4 +45,4 @@ ticked-spec =
     (λ c. search needs)
     (λ c κs. search needs)
     (λ c κs. search needs)
-    returns)
+    returns-2)

@@ -20,4 +20,4 @@ unfolding debounce
 returns-3 c = let a = c .before .before .args in rw (c .before .if1 .left, le-leb (a .length) (a .count + 1) (omega arith))
 
 pub debounced-spec : {M : Type 1} → statement M
-debounced-spec = tie.close (tie.spec (λ c. search needs) (λ c. search needs) returns returns-2 returns-3)
+debounced-spec = tie.close (tie.spec returns (λ c. search needs) (λ c. search needs) returns-2 returns-3)

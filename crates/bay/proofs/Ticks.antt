@@ -1,0 +1,100 @@
+-- What a TICK comes to: where a device leaves, where none does, and where every level is the accepted one. Assumes nothing.
+use Prim.Native.Nat.{ℕ, _-_}
+use mathlib.Core.Path.{_≡_, refl}
+use mathlib.Core.Bool.{Bool, true, false, not, _&&_, _||_, Bool·beq, and-true, and-false, or-false, and-not-self, not-and-self, and-eq-true-iff}
+use mathlib.Core.List.{List, [], _∷_}
+use lib.Dec.{eqb}
+use lib.ListN.{length, getD}
+use native.Mathlib.Omega.{arith}
+use Rattle.bay.specs.Record.{N1394, NUSB, NREMREQ, TICKS, level, acceptedLevel, count, present, EMPTY, REMOVAL-ALLOWED}
+use Rattle.bay.specs.Debounce.{debounce}
+use Rattle.bay.specs.Moves.{leaves, arrives, changes, pressed, stateAfter, movedBay, tickedBay}
+use Rattle.bay.specs.declared.Bay.{Bay}
+use Rattle.bay.specs.declared.Input.{Input}
+use Rattle.bay.proofs.Length.{counting}
+
+-- A bay after its inputs, but for its state, DEVSTSCHG, stored request and PWR_CTL.
+abbrev pub after : Bay → Input → Input → Input → ℕ → Bool → ℕ → Bool → Bay
+after b n1394 nusb nremreq state chg request power =
+    record {
+      levels = b .levels;
+      accepted = n1394 .accepted ∷ nusb .accepted ∷ nremreq .accepted ∷ [];
+      counts = n1394 .count ∷ nusb .count ∷ nremreq .count ∷ [];
+      «n_sl» = b .«n_sl»;
+      state = state;
+      «remreq_sts» = b .«remreq_sts» || pressed nremreq;
+      devstschg = chg;
+      «lock_ctl» = b .«lock_ctl»;
+      request = request;
+      «remreq_en» = b .«remreq_en»;
+      «devstschg_en» = b .«devstschg_en»;
+      «remevtwak_en» = b .«remevtwak_en»;
+      «pwr_ctl» = power;
+      pulse = b .pulse - 1;
+    }
+
+module _ (b : Bay) (n1394 nusb nremreq : Input) where
+  pub left :
+      leaves b n1394 nusb ≡ true
+      → movedBay b n1394 nusb nremreq
+      ≡ after b n1394 nusb nremreq EMPTY (b .devstschg || changes n1394 nusb && not (eqb (b .state) REMOVAL-ALLOWED && not (b .«remevtwak_en»))) 0 false
+  unfolding movedBay stateAfter
+  left e = rw (e, and-true, and-false)
+
+  pub stayed :
+      leaves b n1394 nusb ≡ false
+      → movedBay b n1394 nusb nremreq
+      ≡ after b n1394 nusb nremreq (stateAfter b false (arrives b n1394 nusb) (pressed nremreq)) (b .devstschg || changes n1394 nusb) (b .request) (b .«pwr_ctl»)
+  unfolding movedBay
+  stayed e = rw (e, and-false) (simp and-true)
+
+-- ---- every level is the accepted one
+
+abbrev same : Bay → ℕ → Bool
+same b i = Bool·beq (level b i) (acceptedLevel b i)
+
+held : (level accepted : Bool) (n : ℕ) → Bool·beq level accepted ≡ true → debounce TICKS level accepted n ≡ counting accepted n
+unfolding debounce
+held level accepted n e = rw e
+
+three : {A : Type 0} (d : A) (xs : List A) → length xs ≡ 3 → getD xs 0 d ∷ getD xs 1 d ∷ getD xs 2 d ∷ [] ≡ xs
+three d [] h = absurd (omega arith)
+three d (x ∷ []) h = absurd (omega arith)
+three d (x ∷ y ∷ []) h = absurd (omega arith)
+three d (x ∷ y ∷ z ∷ []) h = refl
+three d (x ∷ y ∷ z ∷ w ∷ xs) h = absurd (omega arith)
+
+-- Only the pulse falls.
+pub steady :
+    (b : Bay) → length (b .accepted) ≡ 3 → length (b .counts) ≡ 3 → (same b N1394 && same b NUSB && same b NREMREQ) ≡ true
+    → tickedBay b
+    ≡ record {
+      levels = b .levels;
+      accepted = b .accepted;
+      counts = b .counts;
+      «n_sl» = b .«n_sl»;
+      state = b .state;
+      «remreq_sts» = b .«remreq_sts»;
+      devstschg = b .devstschg;
+      «lock_ctl» = b .«lock_ctl»;
+      request = b .request;
+      «remreq_en» = b .«remreq_en»;
+      «devstschg_en» = b .«devstschg_en»;
+      «remevtwak_en» = b .«remevtwak_en»;
+      «pwr_ctl» = b .«pwr_ctl»;
+      pulse = b .pulse - 1;
+    }
+unfolding tickedBay present stateAfter
+steady b la lc e =
+    let p = and-eq-true-iff (same b N1394 && same b NUSB) (same b NREMREQ) .0 e in
+    let q = and-eq-true-iff (same b N1394) (same b NUSB) .0 (p .0) in
+    rw (
+      held (level b N1394) (acceptedLevel b N1394) (count b N1394) (q .0),
+      held (level b NUSB) (acceptedLevel b NUSB) (count b NUSB) (q .1),
+      held (level b NREMREQ) (acceptedLevel b NREMREQ) (count b NREMREQ) (p .1),
+      stayed b (counting (acceptedLevel b N1394) (count b N1394)) (counting (acceptedLevel b NUSB) (count b NUSB)) (counting (acceptedLevel b NREMREQ) (count b NREMREQ)) (and-not-self (present b)),
+      not-and-self,
+      three false (b .accepted) la,
+      three 0 (b .counts) lc,
+    )
+    (simp or-false)
