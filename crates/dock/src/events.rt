@@ -1,6 +1,9 @@
 // What each event does to a controller that is fit and may take it (document 01).
 ghost use mathlib.Core.Path.{_≡_};
-ghost use Rattle.dock.specs.Events.{resetTo, sampledAt, tickedAt, pinsTo, tickTo, nextPhase, withProgress, ended, startTo, stopTo, byteTo, takeTo, actedOn};
+ghost use mathlib.Core.Bool.{cond};
+ghost use Rattle.bay.specs.Debounce.{sampledBay};
+ghost use Rattle.bay.specs.Moves.{tickedBay};
+ghost use Rattle.dock.specs.Events.{resetTo, pinsTo, tickTo, nextPhase, withProgress, ended, startTo, stopTo, byteAt, byteTo, takeTo, actedOn};
 use crate::Acted;
 use crate::Controller;
 use crate::record::lock_def;
@@ -20,6 +23,20 @@ fn next_phase(phase: u8) -> u8
     } else {
         0
     }
+}
+
+// A bay after PINS, with its four levels. A closed bay is passed by.
+fn sampled(open: bool, bay: Bay, levels: u8) -> Bay
+    ensures { λ r. ⌜ r ≡ cond «open» (sampledBay levels bay) bay ⌝ }
+{
+    if open { bay.sampled(levels) } else { bay }
+}
+
+// A bay after a TICK. A closed bay is passed by.
+fn ticked(open: bool, bay: Bay) -> Bay
+    ensures { λ r. ⌜ r ≡ cond «open» (tickedBay bay) bay ⌝ }
+{
+    if open { bay.ticked() } else { bay }
 }
 
 impl Controller {
@@ -44,33 +61,12 @@ impl Controller {
         }
     }
 
-    // A bay after PINS, with its four levels. A closed bay is passed by.
-    fn sampled(self, i: u8, levels: u8) -> Bay
-        ensures { λ r. ⌜ r ≡ sampledAt self i levels ⌝ }
-    {
-        if self.is_open(i) {
-            self.bay(i).sampled(levels)
-        } else {
-            self.bay(i)
-        }
-    }
-
-    // A bay after a TICK. A closed bay is passed by.
-    fn ticked(self, i: u8) -> Bay
-        ensures { λ r. ⌜ r ≡ tickedAt self i ⌝ }
-    {
-        if self.is_open(i) {
-            self.bay(i).ticked()
-        } else {
-            self.bay(i)
-        }
-    }
-
     fn pins(mut self, levels: u8) -> Controller
         ensures { λ r. ⌜ r ≡ pinsTo levels self ⌝ }
     {
-        let first = self.sampled(0, levels / 16);
-        let second = self.sampled(1, levels % 16);
+        let bays = self.bays;
+        let first = bays[0].sampled(levels / 16);
+        let second = sampled(self.is_open(1), bays[1], levels % 16);
         let pair = [first, second];
         self.bays = pair;
         self
@@ -79,8 +75,9 @@ impl Controller {
     fn tick(mut self) -> Controller
         ensures { λ r. ⌜ r ≡ tickTo self ⌝ }
     {
-        let first = self.ticked(0);
-        let second = self.ticked(1);
+        let bays = self.bays;
+        let first = bays[0].ticked();
+        let second = ticked(self.is_open(1), bays[1]);
         let pair = [first, second];
         self.bays = pair;
         self.phase = next_phase(self.phase);
@@ -136,7 +133,19 @@ impl Controller {
         self.write(register, value).ended(Reply::Nothing)
     }
 
-    // The own read byte decides the read: the value is the register's reading now.
+    // The own read byte decides the read: the value is the register's reading now. It is asked of a record of its own,
+    // so that no other event copies the state for the asking.
+    fn decide(self, register: u8) -> Acted
+        ensures { λ r. ⌜ r ≡ byteAt (Heard.Read register) self ⌝ }
+    {
+        let idle = self.with_progress(Progress::Idle);
+        Acted {
+            controller: self.with_progress(Progress::Reading(idle.read(register))),
+            reply: Reply::Ack,
+        }
+    }
+
+    // A BYTE goes on with the command, decides a read, or ends the command.
     fn byte(self, byte: u8) -> Acted
         ensures { λ r. ⌜ r ≡ byteTo byte self ⌝ }
     {
@@ -146,10 +155,7 @@ impl Controller {
                 controller: self.with_progress(next),
                 reply: Reply::Ack,
             },
-            Heard::Read(register) => Acted {
-                controller: self.with_progress(Progress::Reading(self.read(register))),
-                reply: Reply::Ack,
-            },
+            Heard::Read(register) => self.decide(register),
             Heard::End => self.ended(Reply::NoAck),
         }
     }

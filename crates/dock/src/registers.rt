@@ -2,6 +2,7 @@
 ghost use mathlib.Core.Path.{_≡_};
 ghost use mathlib.Core.Bool.{cond};
 ghost use lib.Dec.{eqb};
+ghost use Prim.Native.Nat.{_/_, _%_};
 ghost use Rattle.bay.specs.Record.{emptyBay};
 ghost use Rattle.dock.specs.Registers.{readingOf, register, dbccrOf, bstrAt, bcerAt, pulseTicks, dbccrWrite, letrWrite, bstrWrite, bcerWrite, written};
 use crate::Controller;
@@ -30,6 +31,13 @@ fn closed_by(count: u8, bay: Bay) -> Bay
     } else {
         bay
     }
+}
+
+// The bay of a bay's register: bit 3 of its address.
+fn bay_of(address: u8) -> u8
+    ensures { λ r. ⌜ r ≡ address / 8 % 2 ⌝ }
+{
+    address / 8 % 2
 }
 
 impl Controller {
@@ -72,10 +80,8 @@ impl Controller {
             0x01 => 0x10,
             0x04 => 0x01,
             0x0C => self.dbccr(),
-            0x10 => self.bstr(0),
-            0x14 => self.bcer(0),
-            0x18 => self.bstr(1),
-            0x1C => self.bcer(1),
+            0x10 | 0x18 => self.bstr(bay_of(address)),
+            0x14 | 0x1C => self.bcer(bay_of(address)),
             0x40 => self.lock_time % 4,
             _ => 0,
         }
@@ -148,10 +154,8 @@ impl Controller {
     {
         match address {
             0x0C => self.with_dbccr(value),
-            0x10 => self.with_bstr(0, value),
-            0x14 => self.with_bcer(0, value),
-            0x18 => self.with_bstr(1, value),
-            0x1C => self.with_bcer(1, value),
+            0x10 | 0x18 => self.with_bstr(bay_of(address), value),
+            0x14 | 0x1C => self.with_bcer(bay_of(address), value),
             0x40 => self.with_letr(value),
             _ => self,
         }

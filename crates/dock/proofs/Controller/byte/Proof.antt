@@ -10,7 +10,7 @@ returns c = rw (← c .before .before .before .before .byte .ensures, c .before 
 
 returns-2 : tie.Need-returns-2
 unfolding byteTo
-returns-2 c = rw (← c .before .before .before .before .before .byte .ensures, c .before .before .before .register .given .1, c .with-progress2 .ensures, c .before .read .ensures)
+returns-2 c = rw (← c .before .before .before .before .byte .ensures, c .before .before .register .given .1) (c .decide .ensures)
 
 returns-3 : tie.Need-returns-3
 unfolding byteTo
@@ -24,7 +24,6 @@ byte-spec =
     (λ c. search needs)
     (λ c κs. search needs)
     (λ c. search needs)
-    (λ c κs. search needs)
     (λ c κs. search needs)
     (λ c. search needs)
     (λ c κs. search needs)

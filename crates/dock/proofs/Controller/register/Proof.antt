@@ -1,5 +1,6 @@
 -- `dock::Controller::register` meets its contract: the arm that was taken says which address it is; any other is none of the
 -- table's. Assumes nothing.
+use mathlib.Core.Logic.{⊎-elim, inl, inr}
 use borrow.Author.Tests.{ne-eqb}
 use borrow.Author.Needs.{needs}
 use Rattle.dock.specs.Registers.{register, registers}
@@ -24,28 +25,20 @@ returns-4 c = rw (c .before .match .keys4) (c .dbccr .ensures)
 
 returns-5 : tie.Need-returns-5
 unfolding register registers
-returns-5 c = rw (c .before .match .keys5) (c .bstr .ensures)
+returns-5 c = rw (c .bstr .ensures, c .before .bay-of .ensures) (⊎-elim (λ e. rw e) (λ e. rw e) (c .before .before .match .keys5))
 
 returns-6 : tie.Need-returns-6
 unfolding register registers
-returns-6 c = rw (c .before .match .keys6) (c .bcer .ensures)
+returns-6 c = rw (c .bcer .ensures, c .before .bay-of2 .ensures) (⊎-elim (λ e. rw e) (λ e. rw e) (c .before .before .match .keys6))
 
 returns-7 : tie.Need-returns-7
 unfolding register registers
-returns-7 c = rw (c .before .match .keys7) (c .bstr2 .ensures)
+returns-7 c = rw (c .before .match .keys7)
 
 returns-8 : tie.Need-returns-8
 unfolding register registers
-returns-8 c = rw (c .before .match .keys8) (c .bcer2 .ensures)
-
-returns-9 : tie.Need-returns-9
-unfolding register registers
-returns-9 c = rw (c .before .match .keys9)
-
-returns-10 : tie.Need-returns-10
-unfolding register registers
-returns-10 c = let r = c .match .rest in
-    rw (ne-eqb _ _ (r .0 .0 .0 .0 .0 .0 .0 .0 .1), ne-eqb _ _ (r .0 .0 .0 .0 .0 .0 .0 .1), ne-eqb _ _ (r .0 .0 .0 .0 .0 .0 .1), ne-eqb _ _ (r .0 .0 .0 .0 .0 .1), ne-eqb _ _ (r .0 .0 .0 .0 .1), ne-eqb _ _ (r .0 .0 .0 .1), ne-eqb _ _ (r .0 .0 .1), ne-eqb _ _ (r .0 .1), ne-eqb _ _ (r .1))
+returns-8 c = let r = c .match .rest in
+    rw (ne-eqb _ _ (r .0 .0 .0 .0 .0 .0 .1), ne-eqb _ _ (r .0 .0 .0 .0 .0 .1), ne-eqb _ _ (r .0 .0 .0 .0 .1), ne-eqb _ _ (r .0 .0 .0 .1), ne-eqb _ _ (λ e. r .0 .0 .1 (inl e)), ne-eqb _ _ (λ e. r .0 .1 (inl e)), ne-eqb _ _ (λ e. r .0 .0 .1 (inr e)), ne-eqb _ _ (λ e. r .0 .1 (inr e)), ne-eqb _ _ (r .1))
 
 pub register-spec : {M : Type 1} → statement M
 register-spec =
@@ -63,6 +56,4 @@ register-spec =
     returns-5
     returns-6
     returns-7
-    returns-8
-    returns-9
-    returns-10)
+    returns-8)

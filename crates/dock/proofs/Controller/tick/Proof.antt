@@ -1,12 +1,14 @@
 -- `dock::Controller::tick` meets its contract: each part is what the call for it ensures. Assumes nothing.
 use borrow.Author.Needs.{needs}
-use Rattle.dock.specs.Events.{tickTo}
+use Rattle.dock.specs.Record.{bayAt, isOpen}
+use Rattle.dock.specs.Events.{tickTo, tickedAt}
 use Rattle.dock.proofs.Controller.tick.Statement.{statement}
 use Rattle.dock.proofs.Controller.tick.Tie as tie
 
 returns : tie.Need-returns
-unfolding tickTo
-returns c = rw (c .next-phase .ensures, c .before .before .ticked .ensures, c .before .ticked2 .ensures)
+unfolding tickTo tickedAt bayAt isOpen
+returns c = rw (c .next-phase .ensures, c .before .before .before .before .ticked .ensures, c .before .ticked2 .ensures, c .before .before .before .is-open .ensures)
 
 pub tick-spec : {M : Type 1} → statement M
-tick-spec = tie.close (tie.spec (λ c κs. search needs) (λ c κs. search needs) (λ c κs. search needs) returns)
+tick-spec =
+    tie.close (tie.spec (λ c. search needs) (λ c κs. search needs) (λ c κs. search needs) (λ c. search needs) (λ c κs. search needs) (λ c κs. search needs) returns)

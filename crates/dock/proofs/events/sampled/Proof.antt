@@ -1,0 +1,13 @@
+-- `dock::events::sampled` meets its contract: each return has the test that led there. Assumes nothing.
+use borrow.Author.Needs.{needs}
+use Rattle.dock.proofs.events.sampled.Statement.{statement}
+use Rattle.dock.proofs.events.sampled.Tie as tie
+
+returns : tie.Need-returns
+returns c = rw (c .before .if1 .taken) (c .sampled .ensures)
+
+returns-2 : tie.Need-returns-2
+returns-2 c = rw (c .if1 .left)
+
+pub sampled-spec : {M : Type 1} → statement M
+sampled-spec = tie.close (tie.spec (λ c κs. search needs) returns returns-2)
