@@ -3,10 +3,12 @@
 use Prim.Native.Nat.{ℕ, suc, _+_, _*_, _<_, _≤_}
 use native.Mathlib.Omega.{arith}
 use mathlib.Core.Path.{_≡_, refl, ap, sym, _∙_}
+use mathlib.Core.Bool.{Bool, true, false, cond}
 use mathlib.Core.List.{List, [], _∷_, _++_, append-assoc}
 use lib.ListN.{length, getD, take, drop, length-append, take-append-drop}
 use lib.Seq.{take-at, drop-at, drop-append-le, take-append-le, take-add, drop-drop, drop-cons, length-take-le}
 use denote.Ref.{RefT, now}
+use Rattle.dock.specs.Record.{fits}
 use Rattle.dock.specs.Step.{stepOf}
 use Rattle.dock.specs.Run.{after, answersTo}
 use Rattle.dock.specs.Answers.{byteOf, outputsIn}
@@ -18,7 +20,7 @@ use Rattle.batch.specs.Batch.{outcomeOf, stateBy, batchOf, bufferBy, buf
 use Rattle.batch.specs.Outcome.{outcomeRefusal, outcomeCount}
 use Rattle.batch.specs.Decode.{decode}
 use Rattle.batch.specs.declared.Outcome.{Outcome}
-use Rattle.batch.specs.declared.Outcome.the-variants.{Done}
+use Rattle.batch.specs.declared.Outcome.the-variants.{Done, Unfit}
 use Rattle.batch.specs.declared.Batched.{Batched}
 use Rattle.batch.proofs.Records.{record-length, records-length, records-append}
 use Rattle.batch.proofs.Accepted.{has-room}
@@ -74,6 +76,15 @@ alone-or-batched s ws buffer n e =
       where
         before : length (recordsOf (answersTo s (take i ws))) ≡ 4 * i
         before = records-length (answersTo s (take i ws)) ∙ omega (arith, answers-length s (take i ws), length-take-le i ws (omega arith))
+
+-- A batch of one word leaves the state that the single call leaves, of an unfit state too.
+pub one-word : (s : Controller) (w : ℕ) → batchOf s (w ∷ []) 4 .controller ≡ stepOf s w .controller
+unfolding batchOf outcomeOf after stepOf
+one-word s w = go (fits s) refl
+  where
+    go : (f : Bool) → fits s ≡ f → stateBy (cond f (Done 1) Unfit) s (w ∷ []) ≡ stepOf s w .controller
+    go true e = refl
+    go false e = rw e
 
 -- ---- a list cut anywhere into batches
 

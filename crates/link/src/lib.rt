@@ -105,14 +105,15 @@ pub extern "C" fn dock_pack(kind: u8, first: u8, second: u8) -> u32
     packed.refusal() as u32 * 65536 + packed.word() as u32
 }
 
-// The controller after the words.
+// The controller after the words. Each goes through the batch call, so that the library has one place that takes events.
 fn replay(words: &[u16]) -> Controller
     ensures { λ r. ⌜ r ≡ after freshController (now (words .entry)) ⌝ }
 {
     let mut state = Controller::fresh();
     let mut i = 0;
     while i < words.len() {
-        state = state.step(words[i]).controller;
+        let mut record = [0; batch::RECORD];
+        state = batch::batch(state, &words[i..i + 1], &mut record).controller;
         i += 1;
     }
     state

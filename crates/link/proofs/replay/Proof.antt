@@ -2,12 +2,13 @@
 -- words left. Assumes nothing.
 use Prim.Native.Nat.{_≤_, _-_}
 use mathlib.Core.Path.{_≡_, ap, _∙_}
+use native.Mathlib.Nat.{add-sub-cancel-left}
 use native.Mathlib.Numerals.{add-one}
-use lib.Seq.{take-all}
-use lib.ListN.{length, take}
+use lib.Seq.{take-all, drop-cons}
+use lib.ListN.{length, take, getD}
 use denote.Ref.{now}
 use borrow.Author.Needs.{needs}
-use Rattle.dock.specs.declared.Stepped.{Stepped}
+use Rattle.batch.proofs.Theorems.{one-word}
 use Rattle.dock.proofs.Run.{after-next}
 use Rattle.dock.specs.Run.{after}
 use Rattle.dock.specs.Record.{freshController}
@@ -25,7 +26,11 @@ unfolding after
 loop-holds c = (search needs, c .fresh .ensures)
 
 loop-again : tie.Need-loop-again Inv-loop μ-loop
-loop-again c = (search needs, rw (add-one, after-next freshController (now (c .before .before .before .before .before .before .before .args .words)) (c .before .before .before .before .loop .i) (c .before .before .before .loop-test .taken), ← c .before .before .before .before .loop .inv .1) (ap (λ (x : Stepped). x .controller) (c .before .step .ensures)))
+loop-again c =
+    let ws = now (c .before .before .before .before .before .before .before .before .before .args .words) in
+    let l = c .before .before .before .before .before .before .loop in
+    let h = c .before .before .before .before .before .loop-test .taken in
+    (search needs, rw (c .before .before .batch .ensures .0, add-sub-cancel-left, drop-cons ws (l .i) 0 h, add-one, after-next freshController ws (l .i) h, ← l .inv .1) (one-word (l .state) (getD ws (l .i) 0)))
 
 returns : tie.Need-returns Inv-loop μ-loop
 returns c = c .before .loop .inv .1 ∙ ap (after freshController) (take-all (c .before .loop .i) (now (c .before .before .before .before .args .words)) (c .loop-test .left))
@@ -38,6 +43,10 @@ replay-spec =
     μ-loop
     (λ c κs. search needs)
     loop-holds
+    (λ c. search needs)
+    (λ c. search needs)
+    (λ c. search needs)
+    (λ c. search needs)
     (λ c. search needs)
     (λ c. search needs)
     (λ c κs. search needs)
