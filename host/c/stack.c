@@ -1,0 +1,71 @@
+/* Measures the stack that the library's calls take: each call runs on a stack of its own that was painted before, and
+ * the deepest byte that lost its paint is looked for afterwards. What an empty call takes is subtracted. A part of a
+ * frame that is reserved and never written, below the deepest byte that is, is not seen. */
+#define _XOPEN_SOURCE 700
+#include "dock.h"
+
+#include <stdio.h>
+#include <string.h>
+#include <ucontext.h>
+
+#define STACK_BYTES 65536u
+#define PAINT 0xA5
+#define WORDS 1024u
+
+static const uint16_t RESET = 0xC0BF;
+static const uint16_t TICK = 0xA000;
+/* A write of BCER and a read of BSTR, both of bay 0. */
+static const uint16_t COMMANDS[] = {0x0000, 0x4090, 0x4014, 0x40AD, 0x2000, 0x0000,
+                                    0x4090, 0x4010, 0x0000, 0x4091, 0x6000};
+
+static unsigned char stack[STACK_BYTES];
+static uint16_t words[WORDS];
+static uint8_t records[WORDS * DOCK_RECORD_BYTES];
+static volatile uint32_t answer;
+
+static void nothing(void) { answer = 0; }
+static void replay(void) { answer = dock_replay(words, WORDS, records, sizeof records); }
+static void reading(void) { answer = dock_reading(words, WORDS, 0x10); }
+static void outputs(void) { answer = dock_outputs(words, WORDS); }
+static void pack(void) { answer = dock_pack(DOCK_TICK, 0, 0); }
+static void unpack(void) { answer = dock_unpack(TICK); }
+
+/* RESET, then the part over and over. */
+static void fill_words(const uint16_t *part, size_t length) {
+    words[0] = RESET;
+    for (size_t i = 1; i < WORDS; i++)
+        words[i] = part[(i - 1) % length];
+}
+
+/* A stack grows down: the paint is whole from its low end up to the deepest byte that was written. */
+static size_t depth_of(void (*call)(void)) {
+    ucontext_t here, there;
+    size_t painted = 0;
+    memset(stack, PAINT, sizeof stack);
+    getcontext(&there);
+    there.uc_stack.ss_sp = stack;
+    there.uc_stack.ss_size = sizeof stack;
+    there.uc_link = &here;
+    makecontext(&there, call, 0);
+    swapcontext(&here, &there);
+    while (painted < sizeof stack && stack[painted] == PAINT)
+        painted++;
+    return sizeof stack - painted;
+}
+
+static void report(const char *name, void (*call)(void)) {
+    printf("    %5zu  %s\n", depth_of(call) - depth_of(nothing), name);
+}
+
+int main(void) {
+    printf("deepest byte of the stack that a call writes to:\n");
+    fill_words(&TICK, 1);
+    report("dock_replay, ticks", replay);
+    fill_words(COMMANDS, sizeof COMMANDS / sizeof COMMANDS[0]);
+    report("dock_replay, bus events", replay);
+    report("dock_reading", reading);
+    report("dock_outputs", outputs);
+    report("dock_pack", pack);
+    report("dock_unpack", unpack);
+    return 0;
+}
