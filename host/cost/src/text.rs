@@ -42,12 +42,14 @@ impl Tree {
     }
 }
 
-/// Splits the text into parentheses and words; a quoted name is a word without its quotes.
+/// Splits the text into parentheses and words; a quoted name is a word without its quotes. What the toolchain may say
+/// before the program is passed over.
 fn words(text: &str) -> Vec<String> {
     text.replace('(', " ( ")
         .replace(')', " ) ")
         .split_whitespace()
         .map(|word| word.trim_matches('"').to_string())
+        .skip_while(|word| word != "program")
         .collect()
 }
 
