@@ -10,7 +10,8 @@ use Rattle.bus.specs.declared.Progress.the-variants.{Idle, Opened, Addressed, R
 use Rattle.bus.specs.declared.Heard.{Heard}
 use Rattle.bus.specs.declared.Heard.the-variants.{On, Read, End}
 use Rattle.bus.specs.declared.Reply.the-variants.{Ack, NoAck, Driven}
-use Rattle.dock.specs.Registers.{readingOf}
+use Rattle.dock.specs.Record.{bayAt, isOpen}
+use Rattle.dock.specs.Registers.{dbccrOf, bstrAt, bcerAt, registers, register, readingOf}
 use Rattle.dock.specs.Events.{resetTo, pinsTo, tickTo, withProgress, ended, startTo, stopAt, stopTo, byteAt, byteTo, takeAt, takeTo, actedOn}
 use Rattle.dock.specs.declared.Controller.{Controller}
 use Rattle.dock.proofs.Laws.{pins-passed-over, tick-passed-over}
@@ -45,6 +46,11 @@ only-stop-writes s = record { start = (onStart (s .progress), refl); byte = λ b
     after-take (Reading v) = (Idle, refl)
 
 -- ---- a read is decided at the own read byte
+
+-- A reading doesn't look at the command.
+pub reading-apart : (s : Controller) (p : Progress) (a : ℕ) → readingOf (withProgress p s) a ≡ readingOf s a
+unfolding withProgress readingOf register registers dbccrOf bstrAt bcerAt isOpen bayAt
+reading-apart s p a = refl
 
 -- The command then holds what the register reads at that time ..
 pub byte-decides : (s : Controller) (b r : ℕ) → heard (s .straps) b (s .progress) ≡ Read r → byteTo b s .controller .progress ≡ Reading (readingOf s r)

@@ -133,14 +133,15 @@ impl Controller {
         self.write(register, value).ended(Reply::Nothing)
     }
 
-    // The own read byte decides the read: the value is the register's reading now. It is asked of a record of its own,
-    // so that no other event copies the state for the asking.
+    // The own read byte decides the read: the value is the register's reading now. The command is taken off the record
+    // first, so that only this event copies the state for the reading.
     fn decide(self, register: u8) -> Acted
         ensures { λ r. ⌜ r ≡ byteAt (Heard.Read register) self ⌝ }
     {
         let idle = self.with_progress(Progress::Idle);
+        let value = idle.read(register);
         Acted {
-            controller: self.with_progress(Progress::Reading(idle.read(register))),
+            controller: self.with_progress(Progress::Reading(value)),
             reply: Reply::Ack,
         }
     }

@@ -1,4 +1,4 @@
--- `trace::line::line` meets its contract: each character is what `hex` ensures of its digit. Assumes nothing.
+-- `trace::line::line` meets its contract: each character is what `digit` ensures of its digit. Assumes nothing.
 use borrow.Author.Needs.{needs}
 use Rattle.trace.specs.Line.{lineOf}
 use Rattle.trace.proofs.line.line.Statement.{statement}
@@ -6,7 +6,7 @@ use Rattle.trace.proofs.line.line.Tie as tie
 
 returns : tie.Need-returns
 unfolding lineOf
-returns c = rw (c .before .before .before .before .before .before .before .before .before .before .before .before .hex .ensures, c .before .before .before .before .before .before .before .before .before .before .before .hex2 .ensures, c .before .before .before .before .before .before .before .before .before .before .hex3 .ensures, c .before .before .before .before .before .before .before .before .before .hex4 .ensures, c .before .before .before .before .before .before .before .hex5 .ensures, c .before .before .before .before .before .hex6 .ensures, c .before .before .before .before .hex7 .ensures, c .before .before .before .hex8 .ensures, c .before .before .hex9 .ensures, c .before .hex10 .ensures, c .hex11 .ensures, c .before .before .before .before .before .before .before .before .before .before .before .before .before .before .byte .ensures, c .before .before .before .before .before .before .before .before .before .before .before .before .before .outputs .ensures, c .before .before .before .before .before .before .before .before .refusal .ensures, c .before .before .before .before .before .before .reply .ensures)
+returns c = rw (c .before .before .before .before .before .before .before .before .before .before .before .before .digit .ensures, c .before .before .before .before .before .before .before .before .before .before .before .digit2 .ensures, c .before .before .before .before .before .before .before .before .before .before .digit3 .ensures, c .before .before .before .before .before .before .before .before .before .digit4 .ensures, c .before .before .before .before .before .before .before .digit5 .ensures, c .before .before .before .before .before .digit6 .ensures, c .before .before .before .before .digit7 .ensures, c .before .before .before .digit8 .ensures, c .before .before .digit9 .ensures, c .before .digit10 .ensures, c .digit11 .ensures, c .before .before .before .before .before .before .before .before .before .before .before .before .before .before .byte .ensures, c .before .before .before .before .before .before .before .before .before .before .before .before .before .outputs .ensures, c .before .before .before .before .before .before .before .before .refusal .ensures, c .before .before .before .before .before .before .reply .ensures)
 
 pub line-spec : {M : Type 1} → statement M
 line-spec =

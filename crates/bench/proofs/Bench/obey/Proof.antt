@@ -1,0 +1,76 @@
+-- `bench::Bench::obey` meets its contract: each arm is given which order it is, and the call it makes says where the dock comes.
+-- Assumes nothing.
+use Rattle.dock.specs.Run.{after}
+use Rattle.bench.specs.Orders.{wordsOf, addressAfter, obeyed}
+use borrow.Author.Needs.{needs}
+use Rattle.bench.proofs.Bench.obey.Statement.{statement}
+use Rattle.bench.proofs.Bench.obey.Tie as tie
+
+returns : tie.Need-returns
+unfolding obeyed wordsOf addressAfter after
+returns c = rw (c .before .before .order .given .1, c .one .ensures)
+
+returns-2 : tie.Need-returns-2
+unfolding obeyed wordsOf addressAfter after
+returns-2 c = rw (c .before .before .order2 .given .1, c .ticks .ensures)
+
+returns-3 : tie.Need-returns-3
+unfolding obeyed wordsOf addressAfter after
+returns-3 c = rw (c .before .before .order3 .given .1, c .raw .ensures)
+
+returns-4 : tie.Need-returns-4
+unfolding obeyed wordsOf addressAfter after
+returns-4 c = rw (c .before .before .order4 .given .1, c .write .ensures)
+
+returns-5 : tie.Need-returns-5
+unfolding obeyed wordsOf addressAfter after
+returns-5 c = rw (c .before .before .order5 .given .1, c .read .ensures)
+
+returns-6 : tie.Need-returns-6
+unfolding obeyed wordsOf addressAfter after
+returns-6 c = rw (c .before .before .order6 .given .1)
+
+returns-7 : tie.Need-returns-7
+unfolding obeyed wordsOf addressAfter after
+returns-7 c = rw (c .before .before .enum-told .given .1)
+
+returns-8 : tie.Need-returns-8
+unfolding obeyed wordsOf addressAfter after
+returns-8 c = rw (c .before .enum-told2 .given .1)
+
+returns-9 : tie.Need-returns-9
+unfolding obeyed wordsOf addressAfter after
+returns-9 c = rw (c .before .enum-told3 .given .1)
+
+pub obey-spec : {M : Type 1} → statement M
+obey-spec =
+    tie.close
+    (tie.spec
+    (λ c. search needs)
+    (λ c κs. search needs)
+    (λ c. search needs)
+    (λ c κs. search needs)
+    (λ c. search needs)
+    (λ c κs. search needs)
+    (λ c. search needs)
+    (λ c κs. search needs)
+    (λ c. search needs)
+    (λ c κs. search needs)
+    (λ c. search needs)
+    (λ c κs. search needs)
+    (λ c. search needs)
+    (λ c κs. search needs)
+    (λ c κs. search needs)
+    (λ c. search needs)
+    (λ c κs. search needs)
+    (λ c. search needs)
+    (λ c κs. search needs)
+    returns
+    returns-2
+    returns-3
+    returns-4
+    returns-5
+    returns-6
+    returns-7
+    returns-8
+    returns-9)

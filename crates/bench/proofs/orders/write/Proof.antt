@@ -1,0 +1,22 @@
+-- `bench::orders::write` meets its contract: five events, one after the other. Assumes nothing.
+use Rattle.dock.specs.Run.{after}
+use borrow.Author.Needs.{needs}
+use Rattle.bench.proofs.orders.write.Statement.{statement}
+use Rattle.bench.proofs.orders.write.Tie as tie
+
+returns : tie.Need-returns
+unfolding after
+returns c = rw (c .before .sent5 .ensures, c .before .before .sent4 .ensures, c .before .before .before .sent3 .ensures, c .before .before .before .before .sent2 .ensures, c .before .before .before .before .before .sent .ensures)
+
+pub write-spec : {M : Type 1} → statement M
+write-spec =
+    tie.close
+    (tie.spec
+    (λ c κs. search needs)
+    (λ c κs. search needs)
+    (λ c κs. search needs)
+    (λ c κs. search needs)
+    (λ c κs. search needs)
+    (λ c κs. search needs)
+    (λ c κs. search needs)
+    returns)

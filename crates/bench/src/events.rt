@@ -1,0 +1,64 @@
+// Events and what the dock answers, in words.
+use crate::say::say;
+use crate::say::say_byte;
+use crate::say::say_either;
+use dock::Answer;
+use event::Event;
+use event::Unpacked;
+
+fn say_data(name: &[u8], data: u8) {
+    say(name);
+    say_byte(data as u16);
+}
+
+pub(crate) fn tell_event(event: Event) {
+    match event {
+        Event::Start => say(b"  START"),
+        Event::Stop => say(b"  STOP"),
+        Event::Byte(b) => say_data(b"  BYTE ", b),
+        Event::Take(ack) => say_either(ack, b"  TAKE with ACK", b"  TAKE with NACK"),
+        Event::Pins(levels) => say_data(b"  PINS ", levels),
+        Event::Tick => say(b"  TICK"),
+        Event::Reset { straps, levels } => {
+            say_data(b"  RESET with straps ", straps);
+            say_data(b" and levels ", levels);
+        }
+        Event::Timeout => say(b"  TIMEOUT"),
+    }
+}
+
+// A word by its event, where it has one.
+pub(crate) fn tell_word(word: u16) {
+    match event::unpack(word) {
+        Unpacked::Accepted(event) => tell_event(event),
+        Unpacked::StrayBit => say(b"  no event"),
+    }
+}
+
+pub(crate) fn tell_address(address: u8) {
+    say_data(b"  w and r begin with byte ", address);
+    say(b"\n");
+}
+
+// The reply to an event, or why it was refused.
+pub(crate) fn tell_answer(answer: Answer) {
+    match answer.refusal() {
+        0 => tell_reply(answer),
+        1 => say(b": refused with 1, the state isn't fit"),
+        2 => say(b": refused with 2, a bit that must be 0 is set"),
+        _ => say(b": refused with 3, no RESET yet"),
+    }
+}
+
+fn tell_reply(answer: Answer) {
+    match answer.reply() {
+        1 => say(b": ACK"),
+        2 => say(b": no ACK"),
+        3 => {
+            say_data(b": ", answer.byte());
+            say(b" driven");
+        }
+        4 => say(b": not driven"),
+        _ => {}
+    }
+}

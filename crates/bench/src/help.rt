@@ -1,0 +1,82 @@
+// The verbs, as a person types them.
+use crate::say::say;
+use crate::say::say_count;
+use script::Verb;
+
+fn say_use(verb: Verb) {
+    match verb {
+        Verb::Reset => say(
+            b"reset C0BF      RESET, by its word: straps in bits 11-8, levels in bits 7-0\n",
+        ),
+        Verb::Pins => say(
+            b"pins BF         PINS: n1394, nUSB, nREMREQ, nSL of bay 0, then of bay 1; 0 is asserted\n",
+        ),
+        Verb::Tick => say(
+            b"tick 10         so many TICKs of 10 ms, 65535 at most; one if no count is given\n",
+        ),
+        Verb::Timeout => say(b"timeout         TIMEOUT\n"),
+        Verb::Start => say(b"start           START\n"),
+        Verb::Stop => say(b"stop            STOP\n"),
+        Verb::Byte => say(b"byte 90         BYTE from the host\n"),
+        Verb::Take => say(
+            b"take ack        TAKE: the host clocks a byte in, with `ack` or `nack`\n",
+        ),
+        Verb::Word => say(b"word 4090       an event word as it is\n"),
+        Verb::W => say(b"w 14=04         a whole write: register and value\n"),
+        Verb::R => say(b"r 10            a whole read of a register\n"),
+        Verb::At => say(
+            b"at 90           the address byte that w and r send from now on; 90 at first\n",
+        ),
+        Verb::Out => say(b"out             tells the bays and the interrupt\n"),
+        Verb::Regs => say(b"regs            tells every register\n"),
+        Verb::Help => say(b"help            tells these lines\n"),
+    }
+}
+
+pub(crate) fn tell_help() {
+    say(
+        b"  One order to a line; what follows a # is a comment. Numbers are hex, but for the ticks.\n",
+    );
+    say_help(Verb::Reset);
+    say_help(Verb::Pins);
+    say_help(Verb::Tick);
+    say_help(Verb::Timeout);
+    say_help(Verb::Start);
+    say_help(Verb::Stop);
+    say_help(Verb::Byte);
+    say_help(Verb::Take);
+    say_help(Verb::Word);
+    say_help(Verb::W);
+    say_help(Verb::R);
+    say_help(Verb::At);
+    say_help(Verb::Out);
+    say_help(Verb::Regs);
+    say_help(Verb::Help);
+}
+
+fn say_help(verb: Verb) {
+    say(b"  ");
+    say_use(verb);
+}
+
+// The beginning of a message about a line.
+fn say_line(number: u64) {
+    say(b"line ");
+    say_count(number);
+}
+
+pub(crate) fn tell_unknown(number: u64) {
+    say_line(number);
+    say(b": not understood, nothing done; `help` tells what is\n");
+}
+
+pub(crate) fn tell_misuse(number: u64, verb: Verb) {
+    say_line(number);
+    say(b": not understood, nothing done; it is written so:\n  ");
+    say_use(verb);
+}
+
+pub(crate) fn tell_longer(number: u64) {
+    say_line(number);
+    say(b": longer than 255 characters, nothing done\n");
+}

@@ -1,0 +1,32 @@
+// Texts on standard output.
+use libc::STDOUT_FILENO;
+use script::hex::digit;
+
+pub(crate) fn say(text: &[u8]) {
+    io::write_all(STDOUT_FILENO, text);
+}
+
+pub(crate) fn say_if(yes: bool, text: &[u8]) {
+    if yes {
+        say(text);
+    }
+}
+
+pub(crate) fn say_either(yes: bool, one: &[u8], other: &[u8]) {
+    if yes {
+        say(one);
+    } else {
+        say(other);
+    }
+}
+
+// Two hex digits.
+pub(crate) fn say_byte(n: u16) {
+    let text = [digit(n / 16), digit(n)];
+    say(&text);
+}
+
+// Decimal.
+pub(crate) fn say_count(n: u64) {
+    io::print_decimal(STDOUT_FILENO, n);
+}

@@ -1,0 +1,81 @@
+-- A text passed from the front: at a place inside it the rest begins with the character there, and past its end nothing is left.
+-- Each count or sum over a text goes on so from place to place. Assumes nothing.
+use Prim.Native.Nat.{ℕ, suc, _+_, _*_, _<_, _≤_}
+use native.Mathlib.Omega.{arith}
+use native.Mathlib.Numerals.{add-one}
+use mathlib.Core.Bool.{Bool, true, false, cond, Bool·beq, _&&_}
+use mathlib.Core.Path.{_≡_, refl, _∙_}
+use mathlib.Core.List.{List, [], _∷_}
+use lib.ListN.{length, getD, drop, drop-of-length-le}
+use lib.Seq.{drop-cons}
+use lib.Dec.{leb}
+use Rattle.script.specs.Text.{blank, leading, spelled, spelledFrom}
+use Rattle.script.specs.Arguments.{digitOf, countOf, countFrom}
+use Rattle.script.specs.declared.Number.{Number}
+
+module _ (t : List ℕ) where
+  -- The rest of the text at a place.
+  here : (i : ℕ) → i < length t → drop i t ≡ getD t i 0 ∷ drop (i + 1) t
+  here i l = rw add-one (drop-cons t i 0 l)
+
+  -- The i characters in front are all blanks, or are none.
+  abbrev pub Leads : Bool → ℕ → Type 0
+  Leads b i = (i ≤ length t) × (leading b t ≡ i + leading b (drop i t))
+
+  pub leads-on : (b : Bool) (i : ℕ) → Leads b i → i < length t → Bool·beq (blank (getD t i 0)) b ≡ true → Leads b (i + 1)
+  unfolding leading
+  leads-on b i h l e = (omega arith, omega (arith, h .1, one))
+    where
+      one : leading b (drop i t) ≡ suc (leading b (drop (i + 1) t))
+      one = rw (here i l, e)
+
+  pub leads-stop : (b : Bool) (i : ℕ) → Leads b i → i < length t → Bool·beq (blank (getD t i 0)) b ≡ false
+      → (i ≡ leading b t) × (i ≤ length t)
+  unfolding leading
+  leads-stop b i h l e = (omega (arith, h .1, none), h .0)
+    where
+      none : leading b (drop i t) ≡ 0
+      none = rw (here i l, e)
+
+  pub leads-end : (b : Bool) (i : ℕ) → Leads b i → length t ≤ i → (i ≡ leading b t) × (i ≤ length t)
+  unfolding leading
+  leads-end b i h l = (omega (arith, h .1, none), h .0)
+    where
+      none : leading b (drop i t) ≡ 0
+      none = rw (drop-of-length-le t l)
+
+  -- What is spelled is what n and the rest spell.
+  abbrev pub Spells : ℕ → ℕ → Type 0
+  Spells n i = spelled t ≡ spelledFrom n (drop i t)
+
+  pub spells-on : (n i : ℕ) → Spells n i → i < length t → leb n 0xFF_FFFF_FFFF_FFFF ≡ true → Spells (n * 256 + getD t i 0) (i + 1)
+  unfolding spelledFrom
+  spells-on n i h l e = h ∙ rw (here i l, e)
+
+  pub spells-stop : (n i : ℕ) → Spells n i → i < length t → leb n 0xFF_FFFF_FFFF_FFFF ≡ false → spelled t ≡ 0
+  unfolding spelledFrom
+  spells-stop n i h l e = h ∙ rw (here i l, e)
+
+  pub spells-end : (n i : ℕ) → Spells n i → length t ≤ i → spelled t ≡ n
+  unfolding spelledFrom
+  spells-end n i h l = h ∙ rw (drop-of-length-le t l)
+
+  -- The count is what n and the rest count; n is one that has a place.
+  abbrev pub Counts : ℕ → ℕ → Type 0
+  Counts n i = (n ≤ 65535) × (countOf t ≡ countFrom n (drop i t))
+
+  abbrev fine : ℕ → ℕ → Bool
+  fine n i = leb (digitOf (getD t i 0)) 9 && leb (n * 10 + digitOf (getD t i 0)) 65535
+
+  pub counts-stop : (n i : ℕ) → Counts n i → i < length t → fine n i ≡ false → countOf t ≡ record { good = false; value = 0 }
+  unfolding countFrom
+  counts-stop n i h l e = h .1 ∙ rw (here i l, e)
+
+  pub counts-on : (n i : ℕ) → Counts n i → i < length t → fine n i ≡ true
+      → countOf t ≡ countFrom (n * 10 + digitOf (getD t i 0)) (drop (i + 1) t)
+  unfolding countFrom
+  counts-on n i h l e = h .1 ∙ rw (here i l, e)
+
+  pub counts-end : (n i : ℕ) → Counts n i → length t ≤ i → countOf t ≡ record { good = true; value = n }
+  unfolding countFrom
+  counts-end n i h l = h .1 ∙ rw (drop-of-length-le t l)

@@ -1,0 +1,63 @@
+-- What a person types after a verb: bytes and words in hex, counts in decimal.
+use Prim.Native.Nat.{ℕ, _+_, _*_, _-_}
+use Prim.Native.Char.{Char, code}
+use mathlib.Core.Bool.{Bool, true, false, cond, _&&_}
+use mathlib.Core.List.{List, [], _∷_}
+use lib.ListN.{length, getD, take, drop}
+use lib.Dec.{eqb, leb, ltb}
+use Rattle.script.specs.declared.Octet.{Octet}
+use Rattle.script.specs.declared.Number.{Number}
+use Rattle.script.specs.declared.Pair.{Pair}
+
+-- A character from one to another, in the order of their numbers.
+abbrev pub from : Char → Char → ℕ → Bool
+from a z c = leb (code a) c && leb c (code z)
+
+-- The value of a hex digit, in either case; 16 where it is none.
+unfoldable pub digitOf : ℕ → ℕ
+digitOf c =
+    cond (from "0" "9" c) (c - code "0")
+    (cond (from "A" "F" c) (c - code "A" + 10)
+    (cond (from "a" "f" c) (c - code "a" + 10)
+    16))
+
+abbrev pub digitAt : List ℕ → ℕ → ℕ
+digitAt t i = digitOf (getD t i 0)
+
+-- Two hex digits.
+unfoldable pub isOctet : List ℕ → Bool
+isOctet t = eqb (length t) 2 && (ltb (digitAt t 0) 16 && ltb (digitAt t 1) 16)
+
+unfoldable pub octetOf : List ℕ → Octet
+octetOf t = record { good = isOctet t; value = cond (isOctet t) (digitAt t 0 * 16 + digitAt t 1) 0 }
+
+-- Four hex digits.
+unfoldable pub wordOf : List ℕ → Number
+wordOf t =
+    cond (eqb (length t) 4)
+    (record { good = octetOf (take 2 t) .good && octetOf (drop 2 t) .good; value = octetOf (take 2 t) .value * 256 + octetOf (drop 2 t) .value })
+    (record { good = false; value = 0 })
+
+-- A register, `=` and a value.
+unfoldable pub pairOf : List ℕ → Pair
+pairOf t =
+    cond (eqb (length t) 5)
+    (record {
+      good = (eqb (getD t 2 0) (code "=") && octetOf (take 2 t) .good) && octetOf (drop 3 t) .good;
+      register = octetOf (take 2 t) .value;
+      value = octetOf (drop 3 t) .value;
+    })
+    (record { good = false; register = 0; value = 0 })
+
+-- Decimal digits, 65,535 at most.
+unfoldable pub countFrom : ℕ → List ℕ → Number
+countFrom n [] = record { good = true; value = n }
+countFrom n (c ∷ cs) =
+    cond (leb (digitOf c) 9 && leb (n * 10 + digitOf c) 65535) (countFrom (n * 10 + digitOf c) cs) (record { good = false; value = 0 })
+
+unfoldable pub countOf : List ℕ → Number
+countOf t = countFrom 0 t
+
+-- A count, or nothing for 1.
+unfoldable pub ticksOf : List ℕ → Number
+ticksOf t = cond (eqb (length t) 0) (record { good = true; value = 1 }) (countOf t)

@@ -1,0 +1,57 @@
+-- Lines as a person types them, and what each means: one of each verb, then lines that are blank, unknown or misused.
+use Prim.Native.String.{String}
+use mathlib.Core.Bool.{true, false}
+use mathlib.Core.List.{List, [], _∷_}
+use Rattle.event.specs.declared.Event.the-variants as event
+use Rattle.script.specs.declared.Verb.the-variants as verb
+use Rattle.script.specs.declared.Order.the-variants as order
+use Rattle.script.specs.declared.Line.{Line}
+use Rattle.script.specs.declared.Line.the-variants.{Blank, Unknown, Misused, Does}
+
+pub record Example : Type 0 where
+  pub typed : String
+  pub means : Line
+
+abbrev line : String → Line → Example
+line t l = record { typed = t; means = l }
+
+unfoldable pub examples : List Example
+examples =
+    line "reset C0BF" (Does (order.Event (event.Reset 0 0xBF)))
+    ∷ line "reset cdff" (Does (order.Event (event.Reset 13 0xFF)))
+    ∷ line "pins BF" (Does (order.Event (event.Pins 0xBF)))
+    ∷ line "tick 10" (Does (order.Ticks 10))
+    ∷ line "tick 65535" (Does (order.Ticks 65535))
+    ∷ line "tick" (Does (order.Ticks 1))
+    ∷ line "timeout" (Does (order.Event event.Timeout))
+    ∷ line "start" (Does (order.Event event.Start))
+    ∷ line "stop" (Does (order.Event event.Stop))
+    ∷ line "byte 90" (Does (order.Event (event.Byte 0x90)))
+    ∷ line "take ack" (Does (order.Event (event.Take true)))
+    ∷ line "take nack" (Does (order.Event (event.Take false)))
+    ∷ line "word 4090" (Does (order.Word 0x4090))
+    ∷ line "w 14=04" (Does (order.Write 0x14 0x04))
+    ∷ line "r 10" (Does (order.Read 0x10))
+    ∷ line "at 96" (Does (order.Address 0x96))
+    ∷ line "out" (Does order.Outputs)
+    ∷ line "regs" (Does order.Registers)
+    ∷ line "help" (Does order.Help)
+    ∷ line "  w\t1C=8c  # a comment" (Does (order.Write 0x1C 0x8C))
+    ∷ line "stop\r" (Does (order.Event event.Stop))
+    ∷ line "" Blank
+    ∷ line "   # w 14=04" Blank
+    ∷ line "W 14=04" Unknown
+    ∷ line "regsregsregs" Unknown
+    ∷ line "w 14=4" (Misused verb.W)
+    ∷ line "w 14:04" (Misused verb.W)
+    ∷ line "w 14 =04" (Misused verb.W)
+    ∷ line "w" (Misused verb.W)
+    ∷ line "reset 80BF" (Misused verb.Reset)
+    ∷ line "reset D0BF" (Misused verb.Reset)
+    ∷ line "pins BG" (Misused verb.Pins)
+    ∷ line "tick 65536" (Misused verb.Tick)
+    ∷ line "tick A" (Misused verb.Tick)
+    ∷ line "take yes" (Misused verb.Take)
+    ∷ line "r 10 10" (Misused verb.R)
+    ∷ line "out 1" (Misused verb.Out)
+    ∷ []

@@ -1,0 +1,6 @@
+pub mod Hex
+pub mod Text
+pub mod Verbs
+pub mod Arguments
+pub mod Lines
+pub mod Examples

@@ -1,0 +1,79 @@
+-- What a line means: a verb, what it takes, and a comment after `#`.
+use Prim.Native.Nat.{ℕ, _/_, _%_}
+use Prim.Native.Char.{code}
+use mathlib.Core.Bool.{Bool, cond, _&&_, _||_}
+use mathlib.Core.List.{List}
+use lib.ListN.{length, take}
+use lib.Dec.{eqb, leb}
+use Rattle.bytes.specs.Bytes.{indexOf}
+use Rattle.event.specs.declared.Event.the-variants as event
+use Rattle.script.specs.Text.{trimmed, first, rest, spelled}
+use Rattle.script.specs.Verbs.{name, verbOf}
+use Rattle.script.specs.Arguments.{octetOf, wordOf, pairOf, ticksOf}
+use Rattle.script.specs.declared.Verb.{Verb}
+use Rattle.script.specs.declared.Verb.the-variants.{Reset, Pins, Tick, Timeout, Start, Stop, Byte, Take, Word, W, R, At, Out, Regs, Help}
+use Rattle.script.specs.declared.Order.{Order}
+use Rattle.script.specs.declared.Order.the-variants.{Event, Ticks, Word as AWord, Write, Read, Address, Outputs, Registers, Help as Verbs}
+use Rattle.script.specs.declared.Line.{Line}
+use Rattle.script.specs.declared.Line.the-variants.{Blank, Unknown, Misused, Does}
+use Rattle.script.specs.declared.Named.{Named}
+use Rattle.script.specs.declared.Named.the-variants.{This, Nothing}
+
+-- An order, where what follows its verb is what the verb takes.
+unfoldable pub given : Verb → Bool → Order → Line
+given v good o = cond good (Does o) (Misused v)
+
+-- `reset` takes the word of a RESET.
+unfoldable pub resetLine : List ℕ → Line
+resetLine t =
+    given Reset ((wordOf t .good && leb 0xC000 (wordOf t .value)) && leb (wordOf t .value) 0xCFFF)
+    (Event (event.Reset (wordOf t .value / 256 % 16) (wordOf t .value % 256)))
+
+-- `take` takes `ack` or `nack`.
+unfoldable pub takeLine : List ℕ → Line
+takeLine t =
+    given Take (eqb (spelled t) (name "ack") || eqb (spelled t) (name "nack")) (Event (event.Take (eqb (spelled t) (name "ack"))))
+
+-- `w` takes a register, `=` and a value.
+unfoldable pub writeLine : List ℕ → Line
+writeLine t = given W (pairOf t .good) (Write (pairOf t .register) (pairOf t .value))
+
+-- A verb that takes a byte, and one that takes nothing.
+abbrev octetLine : Verb → List ℕ → (ℕ → Order) → Line
+octetLine v t f = given v (octetOf t .good) (f (octetOf t .value))
+
+abbrev aloneLine : Verb → List ℕ → Order → Line
+aloneLine v t o = given v (eqb (length t) 0) o
+
+-- A verb and the word after it, empty where there is none.
+unfoldable pub orderLine : Verb → List ℕ → Line
+orderLine Reset t = resetLine t
+orderLine Pins t = octetLine Pins t (λ n. Event (event.Pins n))
+orderLine Tick t = given Tick (ticksOf t .good) (Ticks (ticksOf t .value))
+orderLine Timeout t = aloneLine Timeout t (Event event.Timeout)
+orderLine Start t = aloneLine Start t (Event event.Start)
+orderLine Stop t = aloneLine Stop t (Event event.Stop)
+orderLine Byte t = octetLine Byte t (λ n. Event (event.Byte n))
+orderLine Take t = takeLine t
+orderLine Word t = given Word (wordOf t .good) (AWord (wordOf t .value))
+orderLine W t = writeLine t
+orderLine R t = octetLine R t Read
+orderLine At t = octetLine At t Address
+orderLine Out t = aloneLine Out t Outputs
+orderLine Regs t = aloneLine Regs t Registers
+orderLine Help t = aloneLine Help t Verbs
+
+-- No verb takes more than one word.
+abbrev pub verbLine : Named → List ℕ → Line
+verbLine Nothing t = Unknown
+verbLine (This v) t = cond (eqb (length (trimmed (rest t))) 0) (orderLine v (first t)) (Misused v)
+
+-- A comment begins with `#` and is no part of what the line says.
+unfoldable pub plain : List ℕ → List ℕ
+plain l = take (indexOf (code "#") l) l
+
+unfoldable pub textLine : List ℕ → Line
+textLine t = cond (eqb (length (first t)) 0) Blank (verbLine (verbOf (spelled (first t))) (rest t))
+
+unfoldable pub lineOf : List ℕ → Line
+lineOf l = textLine (plain l)

@@ -1,0 +1,87 @@
+// The bench's language: what a line that a person typed asks for, or what is wrong with it. docs/BENCH.md describes
+// it for people; specs/ has the same as definitions.
+mod arguments;
+pub mod hex;
+mod lines;
+mod text;
+mod verbs;
+
+use event::Event;
+pub use lines::meaning;
+
+// The word that a line begins with.
+pub enum Verb {
+    Reset,
+    Pins,
+    Tick,
+    Timeout,
+    Start,
+    Stop,
+    Byte,
+    Take,
+    Word,
+    W,
+    R,
+    At,
+    Out,
+    Regs,
+    Help,
+}
+
+// What a line asks for.
+pub enum Order {
+    // One event.
+    Event(Event),
+    // So many TICKs.
+    Ticks(u16),
+    // A word as it is, also one that is refused.
+    Word(u16),
+    // A whole write.
+    Write { register: u8, value: u8 },
+    // A whole read of a register.
+    Read(u8),
+    // The host speaks to this address from now on.
+    Address(u8),
+    // Tell the outputs.
+    Outputs,
+    // Tell the registers.
+    Registers,
+    // Tell what can be asked for.
+    Help,
+}
+
+// What a line means.
+pub enum Line {
+    // Nothing but blanks and a comment.
+    Blank,
+    // It begins with no verb.
+    Unknown,
+    // What follows the verb is not what it takes.
+    Misused(Verb),
+    Does(Order),
+}
+
+// What a name stands for.
+enum Named {
+    This(Verb),
+    Nothing,
+}
+
+// A text as a byte in hex, 0 where it isn't one.
+struct Octet {
+    good: bool,
+    value: u8,
+}
+
+// A text as a number of 16 bits, 0 where it isn't one.
+struct Number {
+    good: bool,
+    value: u16,
+}
+
+// A text as a register and a value.
+struct Pair {
+    good: bool,
+    register: u8,
+    value: u8,
+}
