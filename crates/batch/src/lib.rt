@@ -43,19 +43,7 @@ fn record_number(answer: Answer) -> u32
     (((refusal * 8 + reply) * 256 + byte) * 512 + outputs) * 256
 }
 
-// Writes an answer's record, most significant byte first, into the four bytes lent.
-fn write_record(answer: Answer, place: &mut [u8])
-    requires { ⌜ length (now place) ≡ 4 ⌝ }
-    ensures { λ _. ⌜ now (place .exit) ≡ recordOf answer ⌝ }
-{
-    let n = record_number(answer);
-    place[0] = (n / 16777216 % 256) as u8;
-    place[1] = (n / 65536 % 256) as u8;
-    place[2] = (n / 256 % 256) as u8;
-    place[3] = (n % 256) as u8;
-}
-
-// The record of an answer by value.
+// The record of an answer, most significant byte first.
 pub fn record(answer: Answer) -> [u8; 4]
     ensures { λ r. ⌜ r ≡ recordOf answer ⌝ }
 {
@@ -66,6 +54,18 @@ pub fn record(answer: Answer) -> [u8; 4]
         (n / 256 % 256) as u8,
         (n % 256) as u8,
     ]
+}
+
+// Writes an answer's record into the four bytes lent.
+fn write_record(answer: Answer, place: &mut [u8])
+    requires { ⌜ length (now place) ≡ 4 ⌝ }
+    ensures { λ _. ⌜ now (place .exit) ≡ recordOf answer ⌝ }
+{
+    let bytes = record(answer);
+    place[0] = bytes[0];
+    place[1] = bytes[1];
+    place[2] = bytes[2];
+    place[3] = bytes[3];
 }
 
 // Refusals 1, 5 and 4, in that order.

@@ -13,13 +13,13 @@ use Rattle.dock.specs.declared.Answer.{Answer}
 use Rattle.dock.specs.declared.Answer.the-variants.{Done, Unfit, StrayBit, NotStarted}
 
 -- A word with a bit set that must be 0 is dropped, and so is every event before the first RESET.
-abbrev pub keep : Bool → Unpacked → (Event → List Event) → List Event → List Event
+abbrev pub keep : Bool → Unpacked → List Event → List Event → List Event
 keep begun NoEvent more less = less
-keep begun (Accepted e) more less = cond (takes begun e) (e ∷ more e) less
+keep begun (Accepted e) more less = cond (takes begun e) (e ∷ more) less
 
 unfoldable pub accepted : Bool → List ℕ → List Event
 accepted begun [] = []
-accepted begun (w ∷ ws) = keep begun (unpacked w) (λ e. accepted true ws) (accepted begun ws)
+accepted begun (w ∷ ws) = keep begun (unpacked w) (accepted true ws) (accepted begun ws)
 
 -- The replies to what was accepted.
 abbrev pub reply : Answer → List Reply → List Reply

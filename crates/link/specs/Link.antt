@@ -19,7 +19,7 @@ use Rattle.batch.specs.Outcome.{outcomeRefusal, outcomeCount}
 use Rattle.link.specs.declared.Meant.{Meant}
 use Rattle.link.specs.declared.Meant.the-variants.{This, NoEvent}
 
-abbrev both : ℕ → ℕ → ℕ
+abbrev pub both : ℕ → ℕ → ℕ
 both refusal value = refusal * 65536 + value
 
 -- A replay is a batch from a fresh controller: its refusal and its count, for so many words and so many bytes.
@@ -27,7 +27,7 @@ unfoldable pub replayed : ℕ → ℕ → ℕ
 replayed words bytes = both (outcomeRefusal (outcomeOf freshController words bytes)) (outcomeCount (outcomeOf freshController words bytes))
 
 -- An event as its kind and two numbers.
-abbrev three : ℕ → ℕ → ℕ → ℕ
+abbrev pub three : ℕ → ℕ → ℕ → ℕ
 three kind first second = kind * 65536 + first * 256 + second
 
 unfoldable pub numbersOf : Event → ℕ

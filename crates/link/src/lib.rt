@@ -6,7 +6,7 @@ ghost use mathlib.Core.Bool.{cond};
 ghost use Rattle.dock.specs.Record.{freshController};
 ghost use Rattle.dock.specs.Run.{after};
 ghost use Rattle.batch.specs.Batch.{bufferAfter};
-ghost use Rattle.link.specs.Link.{replayed, numbersOf, unpackedAs, meantBy, packedAs, readingAfter, outputsAfter};
+ghost use Rattle.link.specs.Link.{both, three, replayed, numbersOf, unpackedAs, meantBy, packedAs, readingAfter, outputsAfter};
 use dock::Controller;
 use event::Event;
 use event::Unpacked;
@@ -17,7 +17,14 @@ enum Meant {
     NoEvent,
 }
 
-// Replays words from a fresh controller, a record for each. Answers the refusal times 65,536 plus the count.
+// A refusal in bits 31-16 and a value below it.
+fn both(refusal: u8, value: u16) -> u32
+    ensures { λ r. ⌜ r ≡ both refusal value ⌝ }
+{
+    refusal as u32 * 65536 + value as u32
+}
+
+// Replays words from a fresh controller, a record for each. Answers the refusal and the count.
 #[no_mangle]
 pub extern "C" fn dock_replay(words: &[u16], records: &mut [u8]) -> u32
     ensures { λ r. ⌜ r ≡ replayed (length (now (words .entry))) (length (now (records .entry))) ⌝ }
@@ -25,35 +32,43 @@ pub extern "C" fn dock_replay(words: &[u16], records: &mut [u8]) -> u32
 {
     let done = batch::batch(Controller::fresh(), words, records);
     let outcome = done.outcome;
-    let refusal = outcome.refusal() as u32;
-    let count = outcome.count() as u32;
-    refusal * 65536 + count
+    both(outcome.refusal(), outcome.count() as u16)
 }
 
-// The kind and the two numbers of an event: kind times 65,536, first times 256, second.
+// A kind in bits 23-16 and its two numbers below it.
+fn three(kind: u8, first: u8, second: u8) -> u32
+    ensures { λ r. ⌜ r ≡ three kind first second ⌝ }
+{
+    kind as u32 * 65536 + first as u32 * 256 + second as u32
+}
+
+// The kind and the two numbers of an event.
 fn numbers(event: Event) -> u32
     ensures { λ r. ⌜ r ≡ numbersOf event ⌝ }
 {
     match event {
-        Event::Start => 0,
-        Event::Stop => 65536,
-        Event::Byte(b) => 131072 + b as u32 * 256,
-        Event::Take(ack) => { if ack { 196864 } else { 196608 } }
-        Event::Pins(levels) => 262144 + levels as u32 * 256,
-        Event::Tick => 327680,
-        Event::Reset { straps, levels } => 393216 + straps as u32 * 256 + levels as u32,
-        Event::Timeout => 458752,
+        Event::Start => three(0, 0, 0),
+        Event::Stop => three(1, 0, 0),
+        Event::Byte(b) => three(2, b, 0),
+        Event::Take(ack) => { if ack { three(3, 1, 0) } else { three(3, 0, 0) } }
+        Event::Pins(levels) => three(4, levels, 0),
+        Event::Tick => three(5, 0, 0),
+        Event::Reset { straps, levels } => three(6, straps, levels),
+        Event::Timeout => three(7, 0, 0),
     }
 }
 
-// The event of a word as its numbers, or refusal 2 in bits 31-24.
+// Refusal 2 in bits 31-24, above every event's numbers.
+const STRAY_BIT: u32 = 2 * 16777216;
+
+// The event of a word as its numbers, or refusal 2.
 #[no_mangle]
 pub extern "C" fn dock_unpack(word: u16) -> u32
     ensures { λ r. ⌜ r ≡ unpackedAs word ⌝ }
 {
     match event::unpack(word) {
         Unpacked::Accepted(e) => numbers(e),
-        Unpacked::StrayBit => 33554432,
+        Unpacked::StrayBit => STRAY_BIT,
     }
 }
 
@@ -93,16 +108,16 @@ fn event_by(kind: u8, first: u8, second: u8) -> Meant
     }
 }
 
-// The word of three numbers: the refusal times 65,536 plus the word; refusal 2 where they are no event's.
+// The refusal and the word of three numbers; refusal 2 where they are no event's.
 #[no_mangle]
 pub extern "C" fn dock_pack(kind: u8, first: u8, second: u8) -> u32
     ensures { λ r. ⌜ r ≡ packedAs kind first second ⌝ }
 {
     let Meant::This(event) = event_by(kind, first, second) else {
-        return 131072;
+        return both(2, 0);
     };
     let packed = event::pack(event);
-    packed.refusal() as u32 * 65536 + packed.word() as u32
+    both(packed.refusal(), packed.word())
 }
 
 // The controller after the words. Each goes through the batch call, so that the library has one place that takes events.
@@ -119,26 +134,26 @@ fn replay(words: &[u16]) -> Controller
     state
 }
 
-// One register's reading after a replay: the refusal times 65,536 plus the reading.
+// The refusal and one register's reading after a replay; refusal 5 for over 16,384 words.
 #[no_mangle]
 pub extern "C" fn dock_reading(words: &[u16], address: u8) -> u32
     ensures { λ r. ⌜ r ≡ readingAfter (now (words .entry)) address ⌝ }
 {
     if batch::MOST_WORDS < words.len() {
-        return 327680;
+        return both(5, 0);
     }
     let told = replay(words).reading(address);
-    told.refusal() as u32 * 65536 + told.value() as u32
+    both(told.refusal(), told.value())
 }
 
-// The nine outputs after a replay: the refusal times 65,536 plus the outputs.
+// The refusal and the nine outputs after a replay; refusal 5 for over 16,384 words.
 #[no_mangle]
 pub extern "C" fn dock_outputs(words: &[u16]) -> u32
     ensures { λ r. ⌜ r ≡ outputsAfter (now (words .entry)) ⌝ }
 {
     if batch::MOST_WORDS < words.len() {
-        return 327680;
+        return both(5, 0);
     }
     let told = replay(words).outputs();
-    told.refusal() as u32 * 65536 + told.value() as u32
+    both(told.refusal(), told.value())
 }

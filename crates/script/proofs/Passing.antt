@@ -1,15 +1,16 @@
 -- A text passed from the front: at a place inside it the rest begins with the character there, and past its end nothing is left.
 -- Each count or sum over a text goes on so from place to place. Assumes nothing.
-use Prim.Native.Nat.{ℕ, suc, _+_, _*_, _<_, _≤_}
+use Prim.Native.Nat.{ℕ, zero, suc, _+_, _*_, _-_, _^_, _<_, _≤_}
 use native.Mathlib.Omega.{arith}
 use native.Mathlib.Numerals.{add-one}
 use mathlib.Core.Bool.{Bool, true, false, cond, Bool·beq, _&&_}
-use mathlib.Core.Path.{_≡_, refl, _∙_}
+use mathlib.Core.Path.{_≡_, refl, ap, _∙_}
 use mathlib.Core.List.{List, [], _∷_}
 use lib.ListN.{length, getD, drop, drop-of-length-le}
-use lib.Seq.{drop-cons}
+use lib.Seq.{drop-cons, drop-length}
 use lib.Dec.{leb}
-use Rattle.script.specs.Text.{blank, leading, spelled, spelledFrom}
+use borrow.Author.Tests.{lt-ltb, le-ltb}
+use Rattle.script.specs.Text.{blank, leading, spelled, spelled64}
 use Rattle.script.specs.Arguments.{digitOf, countOf, countFrom}
 use Rattle.script.specs.declared.Number.{Number}
 
@@ -44,21 +45,29 @@ module _ (t : List ℕ) where
       none : leading b (drop i t) ≡ 0
       none = rw (drop-of-length-le t l)
 
-  -- What is spelled is what n and the rest spell.
+  -- The number spells the rest of the word, and has its place.
   abbrev pub Spells : ℕ → ℕ → Type 0
-  Spells n i = spelled t ≡ spelledFrom n (drop i t)
+  Spells n i = (i ≤ length t) × (n < 2 ^ 64) × (n ≡ spelled (drop i t))
 
-  pub spells-on : (n i : ℕ) → Spells n i → i < length t → leb n 0xFF_FFFF_FFFF_FFFF ≡ true → Spells (n * 256 + getD t i 0) (i + 1)
-  unfolding spelledFrom
-  spells-on n i h l e = h ∙ rw (here i l, e)
+  pub spells-on : (n i : ℕ) → Spells n i → 0 < i → n ≤ 0xFF_FFFF_FFFF_FFFF → getD t (i - 1) 0 < 256 → Spells (n * 256 + getD t (i - 1) 0) (i - 1)
+  unfolding spelled
+  spells-on n i h l r c =
+      let back : i - 1 + 1 ≡ i = omega arith in
+      (omega (arith, h .0), omega arith, rw (here (i - 1) (omega (arith, h .0)), back) (ap (λ x. x * 256 + getD t (i - 1) 0) (h .2)))
 
-  pub spells-stop : (n i : ℕ) → Spells n i → i < length t → leb n 0xFF_FFFF_FFFF_FFFF ≡ false → spelled t ≡ 0
-  unfolding spelledFrom
-  spells-stop n i h l e = h ∙ rw (here i l, e)
+  pub spells-none : Spells 0 (length t)
+  unfolding spelled
+  spells-none = (omega arith, omega arith, rw (drop-length t))
 
-  pub spells-end : (n i : ℕ) → Spells n i → length t ≤ i → spelled t ≡ n
-  unfolding spelledFrom
-  spells-end n i h l = h ∙ rw (drop-of-length-le t l)
+  pub spells-end : (n i : ℕ) → Spells n i → i ≤ 0 → n ≡ spelled64 t
+  unfolding spelled64
+  spells-end n i h l = whole ∙ rw (lt-ltb (spelled t) (2 ^ 64) (rw (← whole) (h .1)))
+    where
+      none : i ≡ 0
+      none = omega arith
+
+      whole : n ≡ spelled t
+      whole = h .2 ∙ ap (λ k. spelled (drop k t)) none
 
   -- The count is what n and the rest count; n is one that has a place.
   abbrev pub Counts : ℕ → ℕ → Type 0
@@ -79,3 +88,15 @@ module _ (t : List ℕ) where
   pub counts-end : (n i : ℕ) → Counts n i → length t ≤ i → countOf t ≡ record { good = true; value = n }
   unfolding countFrom
   counts-end n i h l = h .1 ∙ rw (drop-of-length-le t l)
+
+-- A word's number is that of any of its ends, times 256 at least.
+end-less : (t : List ℕ) (i : ℕ) → 0 < i → i ≤ length t → spelled (drop i t) * 256 ≤ spelled t
+unfolding spelled
+end-less [] i l h = absurd (omega arith)
+end-less (c ∷ cs) zero l h = absurd (omega arith)
+end-less (c ∷ cs) (suc zero) l h = omega arith
+end-less (c ∷ cs) (suc (suc i)) l h = omega (arith, end-less cs (suc i) (omega arith) (omega arith))
+
+pub spells-stop : (t : List ℕ) (n i : ℕ) → Spells t n i → 0 < i → 0xFF_FFFF_FFFF_FFFF < n → 0 ≡ spelled64 t
+unfolding spelled64
+spells-stop t n i h l r = rw (le-ltb (spelled t) (2 ^ 64) (omega (arith, h .2, end-less t i l (h .0))))

@@ -1,14 +1,15 @@
 -- The theorems on the bench's language. Assumes nothing.
-use Prim.Native.Nat.{ℕ, _+_, _%_, _<_, _≤_}
+use Prim.Native.Nat.{ℕ, zero, suc, _+_, _%_, _<_, _≤_}
 use native.Mathlib.Omega.{arith}
-use mathlib.Core.Bool.{Bool, true, false}
-use mathlib.Core.Path.{_≡_, refl, _∙_, sym}
-use mathlib.Core.List.{List, map}
-use lib.Dec.{ltb}
-use borrow.Author.Tests.{ltb-true, ltb-false, le-leb, lt-leb}
+use mathlib.Core.Bool.{Bool, true, false, cond, Bool·beq}
+use mathlib.Core.Path.{_≡_, refl, ap, _∙_, sym}
+use mathlib.Core.List.{List, [], _∷_, map}
+use lib.Dec.{ltb, leb}
+use lib.ListN.{take, drop}
+use borrow.Author.Tests.{ltb-true, ltb-false, leb-false, le-leb, lt-leb}
 use denote.Ref.{RefT}
 use Rattle.bytes.specs.Bytes.{indexOf}
-use Rattle.script.specs.Text.{characters, blank, leading, trimmed, first, rest, spelled, spelledFrom}
+use Rattle.script.specs.Text.{characters, blank, leading, trimmed, first, rest, spelled, spelled64}
 use Rattle.script.specs.Verbs.{name, verbs, verbOf}
 use Rattle.script.specs.Hex.{digitFor}
 use Rattle.script.specs.Arguments.{digitOf, isOctet, octetOf, wordOf, pairOf, countFrom, countOf, ticksOf}
@@ -20,8 +21,51 @@ use Rattle.script.proofs.hex.digit.Reads as digit-reads
 
 -- Each of the examples means what it is said to mean.
 pub examples-hold : map (λ (e : Example). lineOf (characters (e .typed))) examples ≡ map (λ (e : Example). e .means) examples
-unfolding examples indexOf lineOf plain textLine orderLine given resetLine takeLine writeLine octetOf isOctet digitOf wordOf pairOf ticksOf countOf countFrom verbOf verbs name spelled spelledFrom trimmed first rest leading blank
+unfolding examples indexOf lineOf plain textLine orderLine given resetLine takeLine writeLine octetOf isOctet digitOf wordOf pairOf ticksOf countOf countFrom verbOf verbs name spelled spelled64 trimmed first rest leading blank
 examples-hold = refl
+
+-- ---- a verb is known by its number
+
+-- Bytes, and bytes that are not 0.
+abbrev Bytes : List ℕ → Type 0
+Bytes [] = Unit {0}
+Bytes (c ∷ cs) = (c < 256) × Bytes cs
+
+abbrev Word : List ℕ → Type 0
+Word [] = Unit {0}
+Word (c ∷ cs) = (0 < c) × (c < 256) × Word cs
+
+-- No two words have one number, so that a word with a name's number is the name.
+pub spelled-apart : (w v : List ℕ) → Word w → Word v → spelled w ≡ spelled v → w ≡ v
+unfolding spelled
+spelled-apart [] [] p q e = refl
+spelled-apart [] (d ∷ ds) p q e = absurd (omega (arith, q .0))
+spelled-apart (c ∷ cs) [] p q e = absurd (omega (arith, p .0))
+spelled-apart (c ∷ cs) (d ∷ ds) p q e =
+    let lowest : c ≡ d = omega (arith, p .1, q .1) in
+    let others : spelled cs ≡ spelled ds = omega (arith, p .1, q .1) in
+    ap (λ x. x ∷ cs) lowest ∙ ap (λ xs. d ∷ xs) (spelled-apart cs ds (p .2) (q .2) others)
+
+-- The first word of a line is such a word: it has no blank.
+unblanked : (t : List ℕ) → Bytes t → Word (take (leading false t) t)
+unfolding leading blank
+unblanked [] b = tt
+unblanked (c ∷ cs) b = go (unblanked cs (b .1)) (leb c 32) refl
+  where
+    go : Word (take (leading false cs) cs) → (k : Bool) → leb c 32 ≡ k → Word (take (cond (Bool·beq k false) (suc (leading false cs)) 0) (c ∷ cs))
+    go rest true e = tt
+    go rest false e = (omega (arith, leb-false c 32 e), b .0, rest)
+
+dropped : (n : ℕ) (t : List ℕ) → Bytes t → Bytes (drop n t)
+dropped zero t b = b
+dropped (suc n) [] b = tt
+dropped (suc n) (c ∷ cs) b = dropped n cs (b .1)
+
+pub first-is-word : (t : List ℕ) → Bytes t → Word (first t)
+unfolding first trimmed
+first-is-word t b = unblanked (drop (leading true t) t) (dropped (leading true t) t b)
+
+-- ---- numbers as texts
 
 -- A digit that is written is read as the same digit.
 pub digit-back : (n : ℕ) → digitOf (digitFor n) ≡ n % 16

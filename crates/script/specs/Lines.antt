@@ -7,7 +7,7 @@ use lib.ListN.{length, take}
 use lib.Dec.{eqb, leb}
 use Rattle.bytes.specs.Bytes.{indexOf}
 use Rattle.event.specs.declared.Event.the-variants as event
-use Rattle.script.specs.Text.{trimmed, first, rest, spelled}
+use Rattle.script.specs.Text.{trimmed, first, rest, spelled64}
 use Rattle.script.specs.Verbs.{name, verbOf}
 use Rattle.script.specs.Arguments.{octetOf, wordOf, pairOf, ticksOf}
 use Rattle.script.specs.declared.Verb.{Verb}
@@ -32,7 +32,7 @@ resetLine t =
 -- `take` takes `ack` or `nack`.
 unfoldable pub takeLine : List ℕ → Line
 takeLine t =
-    given Take (eqb (spelled t) (name "ack") || eqb (spelled t) (name "nack")) (Event (event.Take (eqb (spelled t) (name "ack"))))
+    given Take (eqb (spelled64 t) (name "ack") || eqb (spelled64 t) (name "nack")) (Event (event.Take (eqb (spelled64 t) (name "ack"))))
 
 -- `w` takes a register, `=` and a value.
 unfoldable pub writeLine : List ℕ → Line
@@ -73,7 +73,7 @@ unfoldable pub plain : List ℕ → List ℕ
 plain l = take (indexOf (code "#") l) l
 
 unfoldable pub textLine : List ℕ → Line
-textLine t = cond (eqb (length (first t)) 0) Blank (verbLine (verbOf (spelled (first t))) (rest t))
+textLine t = cond (eqb (length (first t)) 0) Blank (verbLine (verbOf (spelled64 (first t))) (rest t))
 
 unfoldable pub lineOf : List ℕ → Line
 lineOf l = textLine (plain l)

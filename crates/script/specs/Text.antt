@@ -1,11 +1,11 @@
 -- Texts: characters by their numbers, blanks, words.
-use Prim.Native.Nat.{ℕ, suc, _+_, _*_}
+use Prim.Native.Nat.{ℕ, suc, _+_, _*_, _^_}
 use Prim.Native.Char.{code}
 use Prim.Native.String.{String, [] as «end», _∷_ as _then_}
 use mathlib.Core.Bool.{Bool, true, false, cond, Bool·beq}
 use mathlib.Core.List.{List, [], _∷_}
 use lib.ListN.{take, drop}
-use lib.Dec.{leb}
+use lib.Dec.{leb, ltb}
 
 -- The characters of a text, by their numbers.
 abbrev pub characters : String → List ℕ
@@ -31,10 +31,11 @@ first t = take (leading false (trimmed t)) (trimmed t)
 unfoldable pub rest : List ℕ → List ℕ
 rest t = drop (leading false (trimmed t)) (trimmed t)
 
--- A word as a number: its characters as digits of base 256, 0 where there are more than 64 bits of them.
-unfoldable pub spelledFrom : ℕ → List ℕ → ℕ
-spelledFrom n [] = n
-spelledFrom n (c ∷ cs) = cond (leb n 0xFF_FFFF_FFFF_FFFF) (spelledFrom (n * 256 + c) cs) 0
-
+-- A word as a number: its characters as digits of base 256, the first the lowest ..
 unfoldable pub spelled : List ℕ → ℕ
-spelled w = spelledFrom 0 w
+spelled [] = 0
+spelled (c ∷ cs) = spelled cs * 256 + c
+
+-- .. in 64 bits, or 0 where it has more.
+unfoldable pub spelled64 : List ℕ → ℕ
+spelled64 w = cond (ltb (spelled w) (2 ^ 64)) (spelled w) 0

@@ -2,7 +2,7 @@
 ghost use mathlib.Core.Path.{_≡_};
 ghost use Prim.Native.Nat.{_≤_, _<_};
 ghost use lib.ListN.{length};
-ghost use Rattle.script.specs.Text.{blank, leading, trimmed, first, rest, spelled};
+ghost use Rattle.script.specs.Text.{blank, leading, trimmed, first, rest, spelled64};
 
 // The largest number to which a further character can be added.
 const ROOM: u64 = 0xFF_FFFF_FFFF_FFFF;
@@ -63,18 +63,18 @@ fn wide(c: u8) -> u64
     c as u64
 }
 
-// A word as a number, its characters as digits of base 256; 0 of a word that is too long for that.
+// A word as a number, its characters as digits of base 256, the first the lowest; 0 where that has over 64 bits.
 pub(crate) fn spell(word: &[u8]) -> u64
-    ensures { λ r. ⌜ r ≡ spelled (now (word .entry)) ⌝ }
+    ensures { λ r. ⌜ r ≡ spelled64 (now (word .entry)) ⌝ }
 {
     let mut n: u64 = 0;
-    let mut i = 0;
-    while i < word.len() {
+    let mut i = word.len();
+    while 0 < i {
         if ROOM < n {
             return 0;
         }
+        i -= 1;
         n = n * 256 + wide(word[i]);
-        i += 1;
     }
     n
 }

@@ -4,40 +4,40 @@ ghost use Rattle.script.specs.Verbs.{verbOf};
 use crate::Named;
 use crate::Verb;
 
-// A name as `text::spell` makes a number of it: its characters as digits of base 256.
-const RESET: u64 = 0x72_65_73_65_74;
+// A name as `text::spell` makes a number of it: its characters as digits of base 256, the first the lowest.
+const RESET: u64 = 0x74_65_73_65_72;
 
-const PINS: u64 = 0x70_69_6E_73;
+const PINS: u64 = 0x73_6E_69_70;
 
-const TICK: u64 = 0x74_69_63_6B;
+const TICK: u64 = 0x6B_63_69_74;
 
-const TIMEOUT: u64 = 0x74_69_6D_65_6F_75_74;
+const TIMEOUT: u64 = 0x74_75_6F_65_6D_69_74;
 
-const START: u64 = 0x73_74_61_72_74;
+const START: u64 = 0x74_72_61_74_73;
 
-const STOP: u64 = 0x73_74_6F_70;
+const STOP: u64 = 0x70_6F_74_73;
 
-const BYTE: u64 = 0x62_79_74_65;
+const BYTE: u64 = 0x65_74_79_62;
 
-const TAKE: u64 = 0x74_61_6B_65;
+const TAKE: u64 = 0x65_6B_61_74;
 
-const WORD: u64 = 0x77_6F_72_64;
+const WORD: u64 = 0x64_72_6F_77;
 
 const W: u64 = 0x77;
 
 const R: u64 = 0x72;
 
-const AT: u64 = 0x61_74;
+const AT: u64 = 0x74_61;
 
-const OUT: u64 = 0x6F_75_74;
+const OUT: u64 = 0x74_75_6F;
 
-const REGS: u64 = 0x72_65_67_73;
+const REGS: u64 = 0x73_67_65_72;
 
-const HELP: u64 = 0x68_65_6C_70;
+const HELP: u64 = 0x70_6C_65_68;
 
-pub(crate) const ACK: u64 = 0x61_63_6B;
+pub(crate) const ACK: u64 = 0x6B_63_61;
 
-pub(crate) const NACK: u64 = 0x6E_61_63_6B;
+pub(crate) const NACK: u64 = 0x6B_63_61_6E;
 
 pub(crate) fn verb(name: u64) -> Named
     ensures { λ r. ⌜ r ≡ verbOf name ⌝ }

@@ -1,5 +1,4 @@
 -- `link::numbers` meets its contract: each arm is given which event it is. Assumes nothing.
-use native.Mathlib.Omega.{arith}
 use borrow.Author.Needs.{needs}
 use Rattle.link.specs.Link.{numbersOf}
 use Rattle.link.proofs.numbers.Statement.{statement}
@@ -7,63 +6,61 @@ use Rattle.link.proofs.numbers.Tie as tie
 
 returns : tie.Need-returns
 unfolding numbersOf
-returns c = rw (c .enum-told .given .1)
+returns c = rw (c .before .enum-told .given .1) (c .three .ensures)
 
 returns-2 : tie.Need-returns-2
 unfolding numbersOf
-returns-2 c = rw (c .enum-told2 .given .1)
+returns-2 c = rw (c .before .enum-told2 .given .1) (c .three2 .ensures)
 
 returns-3 : tie.Need-returns-3
 unfolding numbersOf
-returns-3 c = rw (c .before .event .given .1) (omega arith)
+returns-3 c = rw (c .before .before .event .given .1) (c .three3 .ensures)
 
 returns-4 : tie.Need-returns-4
 unfolding numbersOf
-returns-4 c = rw (c .before .before .event2 .given .1, c .if1 .taken)
+returns-4 c = rw (c .before .before .before .event2 .given .1, c .before .if1 .taken) (c .three4 .ensures)
 
 returns-5 : tie.Need-returns-5
 unfolding numbersOf
-returns-5 c = rw (c .before .before .event2 .given .1, c .if1 .left)
+returns-5 c = rw (c .before .before .before .event2 .given .1, c .before .if1 .left) (c .three5 .ensures)
 
 returns-6 : tie.Need-returns-6
 unfolding numbersOf
-returns-6 c = rw (c .before .event3 .given .1) (omega arith)
+returns-6 c = rw (c .before .before .event3 .given .1) (c .three6 .ensures)
 
 returns-7 : tie.Need-returns-7
 unfolding numbersOf
-returns-7 c = rw (c .enum-told3 .given .1)
+returns-7 c = rw (c .before .enum-told3 .given .1) (c .three7 .ensures)
 
 returns-8 : tie.Need-returns-8
 unfolding numbersOf
-returns-8 c = rw (c .before .event4 .given .1)
+returns-8 c = rw (c .before .before .event4 .given .1) (c .three8 .ensures)
 
 returns-9 : tie.Need-returns-9
 unfolding numbersOf
-returns-9 c = rw (c .enum-told4 .given .1)
+returns-9 c = rw (c .before .enum-told4 .given .1) (c .three9 .ensures)
 
 pub numbers-spec : {M : Type 1} → statement M
 numbers-spec =
     tie.close
     (tie.spec
     (λ c. search needs)
+    (λ c κs. search needs)
     (λ c. search needs)
+    (λ c κs. search needs)
     (λ c. search needs)
+    (λ c κs. search needs)
     (λ c. search needs)
+    (λ c κs. search needs)
+    (λ c κs. search needs)
     (λ c. search needs)
+    (λ c κs. search needs)
     (λ c. search needs)
+    (λ c κs. search needs)
     (λ c. search needs)
+    (λ c κs. search needs)
     (λ c. search needs)
-    (λ c. search needs)
-    (λ c. search needs)
-    (λ c. search needs)
-    (λ c. search needs)
-    (λ c. search needs)
-    (λ c. search needs)
-    (λ c. search needs)
-    (λ c. search needs)
-    (λ c. search needs)
-    (λ c. search needs)
-    (λ c. search needs)
+    (λ c κs. search needs)
     returns
     returns-2
     returns-3

@@ -1,12 +1,8 @@
--- `script::text::spell` meets its contract. The invariant is `Spells`: the number and what is left spell the word; the measure is
--- the number of characters left. Assumes nothing.
-use Prim.Native.Nat.{_-_}
-use mathlib.Core.Path.{refl, sym}
-use lib.ListN.{length}
+-- `script::text::spell` meets its contract. The invariant is `Spells`: the number spells what was passed, from the word's end; the
+-- measure is the place. Assumes nothing.
+use denote.Ref.{now}
 use borrow.Author.Needs.{needs}
-use borrow.Author.Tests.{le-leb, lt-leb}
-use Rattle.script.specs.Text.{spelled}
-use Rattle.script.proofs.Passing.{Spells, spells-on, spells-stop, spells-end}
+use Rattle.script.proofs.Passing.{Spells, spells-none, spells-on, spells-stop, spells-end}
 use Rattle.script.proofs.text.spell.Statement.{statement}
 use Rattle.script.proofs.text.spell.Tie as tie
 
@@ -14,20 +10,21 @@ abbrev Inv-loop : tie.InvT-loop
 Inv-loop word n₀ i₀ n i = Spells word n i
 
 abbrev μ-loop : tie.MeasureT-loop
-μ-loop word n₀ i₀ n i = length word - i
+μ-loop word n₀ i₀ n i = i
 
 loop-holds : tie.Need-loop-holds Inv-loop μ-loop
-unfolding spelled
-loop-holds c = refl
+loop-holds c = spells-none (now (c .before .args .word))
 
 returns : tie.Need-returns Inv-loop μ-loop
-returns c = sym (spells-stop _ _ _ (c .before .before .loop .inv) (c .before .loop-test .taken) (lt-leb _ _ (c .if1 .taken)))
+returns c = spells-stop _ _ _ (c .before .before .loop .inv) (c .before .loop-test .taken) (c .if1 .taken)
 
 loop-again : tie.Need-loop-again Inv-loop μ-loop
-loop-again c = rw (c .wide .ensures .0) (spells-on _ _ _ (c .before .before .before .before .loop .inv) (c .before .before .before .loop-test .taken) (le-leb _ _ (c .before .before .if1 .left)))
+loop-again c =
+    rw (c .wide .ensures .0)
+    (spells-on _ _ _ (c .before .before .before .before .loop .inv) (c .before .before .before .loop-test .taken) (c .before .before .if1 .left) (rw (← c .wide .ensures .0) (c .wide .ensures .1)))
 
 returns-2 : tie.Need-returns-2 Inv-loop μ-loop
-returns-2 c = sym (spells-end _ _ _ (c .before .loop .inv) (c .loop-test .left))
+returns-2 c = spells-end _ _ _ (c .before .loop .inv) (c .loop-test .left)
 
 pub spell-spec : {M : Type 1} → statement M
 spell-spec =
@@ -39,8 +36,8 @@ spell-spec =
     returns
     (λ c. search needs)
     (λ c. search needs)
-    (λ c κs. search needs)
     (λ c. search needs)
+    (λ c κs. search needs)
     (λ c. search needs)
     (λ c. search needs)
     loop-again
