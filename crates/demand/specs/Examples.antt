@@ -14,19 +14,19 @@ use Rattle.dock.specs.declared.Controller.{Controller}
 
 -- ---- the paper's notation as event words
 
-abbrev R : List ℕ
+abbrev pub R : List ℕ
 R = 0xC0BF ∷ []
 
-abbrev N : List ℕ
+abbrev pub N : List ℕ
 N = 0xC0FF ∷ []
 
-abbrev w : ℕ → ℕ → List ℕ
+abbrev pub w : ℕ → ℕ → List ℕ
 w a v = 0x0000 ∷ 0x4090 ∷ (0x4000 + a) ∷ (0x4000 + v) ∷ 0x2000 ∷ []
 
-abbrev pins : ℕ → List ℕ
+abbrev pub pins : ℕ → List ℕ
 pins levels = (0x8000 + levels) ∷ []
 
-abbrev ticks : ℕ → List ℕ
+abbrev pub ticks : ℕ → List ℕ
 ticks n = replicate n 0xA000
 
 -- ---- what an example shows, after its words from a fresh controller

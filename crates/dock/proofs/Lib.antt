@@ -7,6 +7,7 @@ pub mod Refusals
 pub mod Run
 pub mod Ranges
 pub mod Laws
+pub mod Straps
 pub mod Determined
 pub mod Decided
 pub mod Dbccr
