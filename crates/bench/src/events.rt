@@ -2,6 +2,7 @@
 use crate::say::say;
 use crate::say::say_byte;
 use crate::say::say_either;
+use bus::Reply;
 use dock::Answer;
 use event::Event;
 use event::Unpacked;
@@ -42,23 +43,23 @@ pub(crate) fn tell_address(address: u8) {
 
 // The reply to an event, or why it was refused.
 pub(crate) fn tell_answer(answer: Answer) {
-    match answer.refusal() {
-        0 => tell_reply(answer),
-        1 => say(b": refused with 1, the state isn't fit"),
-        2 => say(b": refused with 2, a bit that must be 0 is set"),
-        _ => say(b": refused with 3, no RESET yet"),
+    match answer {
+        Answer::Done(reply, _) => tell_reply(reply),
+        Answer::Unfit => say(b": refused with 1, the state isn't fit"),
+        Answer::StrayBit(_) => say(b": refused with 2, a bit that must be 0 is set"),
+        Answer::NotStarted => say(b": refused with 3, no RESET yet"),
     }
 }
 
-fn tell_reply(answer: Answer) {
-    match answer.reply() {
-        1 => say(b": ACK"),
-        2 => say(b": no ACK"),
-        3 => {
-            say_data(b": ", answer.byte());
+fn tell_reply(reply: Reply) {
+    match reply {
+        Reply::Nothing => {}
+        Reply::Ack => say(b": ACK"),
+        Reply::NoAck => say(b": no ACK"),
+        Reply::Driven(value) => {
+            say_data(b": ", value);
             say(b" driven");
         }
-        4 => say(b": not driven"),
-        _ => {}
+        Reply::NotDriven => say(b": not driven"),
     }
 }

@@ -1,4 +1,5 @@
 // The verbs, as a person types them.
+use crate::LONGEST;
 use crate::say::say;
 use crate::say::say_count;
 use script::Verb;
@@ -78,5 +79,7 @@ pub(crate) fn tell_misuse(number: u64, verb: Verb) {
 
 pub(crate) fn tell_longer(number: u64) {
     say_line(number);
-    say(b": longer than 255 characters, nothing done\n");
+    say(b": longer than ");
+    say_count(LONGEST as u64);
+    say(b" characters, nothing done\n");
 }

@@ -1,11 +1,12 @@
 // The bench: a dock to play on. Reads a line at a time, does what it asks and tells what happened; docs/BENCH.md
 // describes the lines.
+mod bays;
 mod events;
 mod help;
 mod input;
 mod orders;
+mod registers;
 mod say;
-mod tell;
 
 ghost use mathlib.Core.Path.{_≡_};
 ghost use Rattle.bench.specs.Orders.{heeded};
@@ -29,8 +30,8 @@ struct Bench {
 struct Seen {
     // Bay 1 is closed.
     one_bay: bool,
-    bstr_0: u16,
-    bstr_1: u16,
+    bstr_0: u8,
+    bstr_1: u8,
     outputs: u16,
 }
 

@@ -7,28 +7,25 @@ ghost use Rattle.event.specs.declared.Event.the-variants.{Tick};
 ghost use Rattle.bench.specs.Orders.{wordFor, writeWords, readWords, obeyed};
 use crate::Bench;
 use crate::Seen;
+use crate::bays::differs;
+use crate::bays::look;
+use crate::bays::tell_all;
+use crate::bays::tell_changes;
 use crate::events::tell_address;
 use crate::events::tell_answer;
 use crate::events::tell_event;
 use crate::events::tell_word;
 use crate::help::tell_help;
+use crate::registers::tell_registers;
+use crate::registers::tell_taken;
 use crate::say::say;
 use crate::say::say_count;
 use crate::say::say_if;
-use crate::tell::differs;
-use crate::tell::look;
-use crate::tell::tell_all;
-use crate::tell::tell_changes;
-use crate::tell::tell_register;
-use crate::tell::tell_registers;
 use dock::Answer;
 use dock::Controller;
 use dock::Stepped;
 use event::Event;
 use script::Order;
-
-// The reply of a TAKE that gives a byte.
-const DRIVEN: u8 = 3;
 
 // One event, as its word.
 fn send(controller: Controller, event: Event) -> Stepped
@@ -113,9 +110,7 @@ fn read(controller: Controller, address: u8, register: u8) -> Controller
     let answer = taken.answer;
     let next = taken.controller;
     tell_end(before, next);
-    if answer.reply() == DRIVEN {
-        tell_register(register, answer.byte() as u16);
-    }
+    tell_taken(register, answer);
     next
 }
 

@@ -34,6 +34,25 @@ impl Controller {
     pub const PHASES: u8 = 200;
 
     pub const LIT: u8 = 100;
+    // The addresses of the registers; those of a bay's are for bay 0 and for bay 1.
+    pub const VENDOR_LOW: u8 = 0x00;
+
+    pub const VENDOR_HIGH: u8 = 0x01;
+
+    pub const REVISION: u8 = 0x04;
+
+    pub const DBCCR: u8 = 0x0C;
+
+    pub const BSTR_0: u8 = 0x10;
+
+    pub const BCER_0: u8 = 0x14;
+
+    pub const BSTR_1: u8 = 0x18;
+
+    pub const BCER_1: u8 = 0x1C;
+
+    pub const LETR: u8 = 0x40;
+
     // The count in DBCCR that closes bay 1.
     pub const ONE_BAY: u8 = 1;
     // The largest straps, bay count and lock time.

@@ -76,13 +76,13 @@ impl Controller {
         ensures { λ r. ⌜ r ≡ register self address ⌝ }
     {
         match address {
-            0x00 => 0x55,
-            0x01 => 0x10,
-            0x04 => 0x01,
-            0x0C => self.dbccr(),
-            0x10 | 0x18 => self.bstr(bay_of(address)),
-            0x14 | 0x1C => self.bcer(bay_of(address)),
-            0x40 => self.lock_time % 4,
+            Controller::VENDOR_LOW => 0x55,
+            Controller::VENDOR_HIGH => 0x10,
+            Controller::REVISION => 0x01,
+            Controller::DBCCR => self.dbccr(),
+            Controller::BSTR_0 | Controller::BSTR_1 => self.bstr(bay_of(address)),
+            Controller::BCER_0 | Controller::BCER_1 => self.bcer(bay_of(address)),
+            Controller::LETR => self.lock_time % 4,
             _ => 0,
         }
     }
@@ -153,10 +153,10 @@ impl Controller {
         ensures { λ r. ⌜ r ≡ written address value self ⌝ }
     {
         match address {
-            0x0C => self.with_dbccr(value),
-            0x10 | 0x18 => self.with_bstr(bay_of(address), value),
-            0x14 | 0x1C => self.with_bcer(bay_of(address), value),
-            0x40 => self.with_letr(value),
+            Controller::DBCCR => self.with_dbccr(value),
+            Controller::BSTR_0 | Controller::BSTR_1 => self.with_bstr(bay_of(address), value),
+            Controller::BCER_0 | Controller::BCER_1 => self.with_bcer(bay_of(address), value),
+            Controller::LETR => self.with_letr(value),
             _ => self,
         }
     }

@@ -6,11 +6,7 @@ use Rattle.bench.proofs.orders.read.Tie as tie
 
 returns : tie.Need-returns
 unfolding after
-returns c = rw (c .before .before .before .before .before .before .send .ensures, c .before .before .before .before .before .before .before .sent5 .ensures, c .before .before .before .before .before .before .before .before .sent4 .ensures, c .before .before .before .before .before .before .before .before .before .sent3 .ensures, c .before .before .before .before .before .before .before .before .before .before .sent2 .ensures, c .before .before .before .before .before .before .before .before .before .before .before .sent .ensures)
-
-returns-2 : tie.Need-returns-2
-unfolding after
-returns-2 c = rw (c .before .before .before .before .send .ensures, c .before .before .before .before .before .sent5 .ensures, c .before .before .before .before .before .before .sent4 .ensures, c .before .before .before .before .before .before .before .sent3 .ensures, c .before .before .before .before .before .before .before .before .sent2 .ensures, c .before .before .before .before .before .before .before .before .before .sent .ensures)
+returns c = rw (c .before .before .before .send .ensures, c .before .before .before .before .sent5 .ensures, c .before .before .before .before .before .sent4 .ensures, c .before .before .before .before .before .before .sent3 .ensures, c .before .before .before .before .before .before .before .sent2 .ensures, c .before .before .before .before .before .before .before .before .sent .ensures)
 
 pub read-spec : {M : Type 1} → statement M
 read-spec =
@@ -27,8 +23,4 @@ read-spec =
     (λ c κs. search needs)
     (λ c κs. search needs)
     (λ c κs. search needs)
-    (λ c κs. search needs)
-    (λ c. search needs)
-    (λ c κs. search needs)
-    returns
-    returns-2)
+    returns)

@@ -1,0 +1,118 @@
+// What can be seen of the bays, in words: state, device, power, lock and lamps, and the interrupt.
+use crate::Seen;
+use crate::say::say;
+use crate::say::say_either;
+use crate::say::say_if;
+use bay::Bay;
+use dock::Controller;
+
+// A register's reading, which is a byte.
+pub(crate) fn read(controller: Controller, register: u8) -> u8 {
+    (controller.reading(register).value() % 256) as u8
+}
+
+// What is to be seen of a controller now.
+pub(crate) fn look(controller: Controller) -> Seen {
+    Seen {
+        one_bay: read(controller, Controller::DBCCR) % 4 == Controller::ONE_BAY,
+        bstr_0: read(controller, Controller::BSTR_0),
+        bstr_1: read(controller, Controller::BSTR_1),
+        outputs: controller.outputs().value(),
+    }
+}
+
+pub(crate) fn is_set(value: u8, weight: u8) -> bool {
+    if weight == 0 {
+        false
+    } else {
+        value / weight % 2 == 1
+    }
+}
+
+// A bay state by its name.
+pub(crate) fn say_state(state: u8) {
+    match state {
+        Bay::EMPTY => say(b"Empty"),
+        Bay::INSERTED => say(b"Inserted"),
+        Bay::ENABLED => say(b"Enabled"),
+        Bay::REMOVAL_REQUESTED => say(b"Removal Requested"),
+        Bay::REMOVAL_ALLOWED => say(b"Removal Allowed"),
+        _ => say(b"no state"),
+    }
+}
+
+pub(crate) fn say_bay(bstr: u8) {
+    say_state(bstr / 16 % 8);
+    say_if(is_set(bstr, 2), b", 1394 device");
+    say_if(is_set(bstr, 1), b", USB device");
+    say_if(bstr % 4 == 0, b", no device");
+    say_if(is_set(bstr, 8), b", REMREQ_STS");
+    say_if(is_set(bstr, 4), b", DEVSTSCHG");
+    say_if(is_set(bstr, 128), b", nSL low");
+}
+
+// A bay's line: its BSTR, then its power, lock pin, green and yellow, bit 3 to 0.
+fn tell_bay(name: &[u8], bstr: u8, pins: u8) {
+    say(name);
+    say_bay(bstr);
+    say_either(is_set(pins, 8), b"; power on", b"; power off");
+    say_either(is_set(pins, 4), b", lock pin high", b", lock pin low");
+    say_either(is_set(pins, 2), b", green on", b", green off");
+    say_either(is_set(pins, 1), b", yellow on\n", b", yellow off\n");
+}
+
+fn tell_bay_0(seen: Seen) {
+    tell_bay(b"  bay 0: ", seen.bstr_0, (seen.outputs / 32 % 16) as u8);
+}
+
+fn tell_bay_1(seen: Seen) {
+    if seen.one_bay {
+        say(b"  bay 1: closed\n");
+    } else {
+        tell_bay(b"  bay 1: ", seen.bstr_1, (seen.outputs / 2 % 16) as u8);
+    }
+}
+
+fn tell_interrupt(seen: Seen) {
+    say_either(
+        seen.outputs % 2 == 1,
+        b"  interrupt: asserted\n",
+        b"  interrupt: not asserted\n",
+    );
+}
+
+pub(crate) fn tell_all(seen: Seen) {
+    tell_bay_0(seen);
+    tell_bay_1(seen);
+    tell_interrupt(seen);
+}
+
+fn bay_0_differs(before: Seen, after: Seen) -> bool {
+    (before.bstr_0 != after.bstr_0) | (before.outputs / 32 != after.outputs / 32)
+}
+
+fn bay_1_differs(before: Seen, after: Seen) -> bool {
+    (before.one_bay != after.one_bay)
+        | (before.bstr_1 != after.bstr_1)
+        | (before.outputs / 2 % 16 != after.outputs / 2 % 16)
+}
+
+fn interrupt_differs(before: Seen, after: Seen) -> bool {
+    before.outputs % 2 != after.outputs % 2
+}
+
+pub(crate) fn differs(before: Seen, after: Seen) -> bool {
+    bay_0_differs(before, after) | bay_1_differs(before, after) | interrupt_differs(before, after)
+}
+
+pub(crate) fn tell_changes(before: Seen, after: Seen) {
+    if bay_0_differs(before, after) {
+        tell_bay_0(after);
+    }
+    if bay_1_differs(before, after) {
+        tell_bay_1(after);
+    }
+    if interrupt_differs(before, after) {
+        tell_interrupt(after);
+    }
+}

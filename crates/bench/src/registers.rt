@@ -1,0 +1,111 @@
+// The registers by their names, and what a reading says.
+use crate::bays::is_set;
+use crate::bays::read;
+use crate::bays::say_bay;
+use crate::bays::say_state;
+use crate::say::say;
+use crate::say::say_byte;
+use crate::say::say_count;
+use crate::say::say_if;
+use bus::Reply;
+use dock::Answer;
+use dock::Controller;
+
+fn say_dbccr(dbccr: u8) {
+    let count = dbccr % 4;
+    say(b": ");
+    say_if(is_set(dbccr, 16), b"SECLOCK, ");
+    say(b"bay count ");
+    say_count(count as u64);
+    say_if(count == Controller::ONE_BAY, b", bay 1 closed");
+}
+
+fn say_bstr(bstr: u8) {
+    say(b": ");
+    say_bay(bstr);
+}
+
+// The stored request; 0 is none.
+fn say_request(request: u8) {
+    if request == 0 {
+        say(b"no request");
+    } else {
+        say(b"request ");
+        say_state(request);
+    }
+}
+
+fn say_bcer(bcer: u8) {
+    say(b": ");
+    say_if(is_set(bcer, 128), b"LOCK_CTL, ");
+    say_request(bcer / 16 % 8);
+    say_if(is_set(bcer, 8), b", REMREQ_EN");
+    say_if(is_set(bcer, 4), b", DEVSTSCHG_EN");
+    say_if(is_set(bcer, 2), b", REMEVTWAK_EN");
+    say_if(is_set(bcer, 1), b", PWR_CTL");
+}
+
+fn say_name(register: u8) {
+    match register {
+        Controller::VENDOR_LOW => say(b" vendor, low byte,"),
+        Controller::VENDOR_HIGH => say(b" vendor, high byte,"),
+        Controller::REVISION => say(b" revision"),
+        Controller::DBCCR => say(b" DBCCR"),
+        Controller::BSTR_0 => say(b" BSTR of bay 0"),
+        Controller::BCER_0 => say(b" BCER of bay 0"),
+        Controller::BSTR_1 => say(b" BSTR of bay 1"),
+        Controller::BCER_1 => say(b" BCER of bay 1"),
+        Controller::LETR => say(b" LETR"),
+        _ => {}
+    }
+}
+
+fn say_meaning(register: u8, value: u8) {
+    match register {
+        Controller::DBCCR => say_dbccr(value),
+        Controller::BSTR_0 | Controller::BSTR_1 => say_bstr(value),
+        Controller::BCER_0 | Controller::BCER_1 => say_bcer(value),
+        _ => {}
+    }
+}
+
+// A register's line: its address, its name, its value and what that says.
+fn tell_register(register: u8, value: u8) {
+    say(b"  ");
+    say_byte(register as u16);
+    say(b"h");
+    say_name(register);
+    say(b" reads ");
+    say_byte(value as u16);
+    say(b"h");
+    say_meaning(register, value);
+    say(b"\n");
+}
+
+// What the byte that ended a read says, where one was driven.
+pub(crate) fn tell_taken(register: u8, answer: Answer) {
+    let Answer::Done(reply, _) = answer else {
+        return;
+    };
+    if let Reply::Driven(value) = reply {
+        tell_register(register, value);
+    }
+}
+
+// A register as it reads now.
+fn tell_now(controller: Controller, register: u8) {
+    tell_register(register, read(controller, register));
+}
+
+// Every register that a dock has.
+pub(crate) fn tell_registers(controller: Controller) {
+    tell_now(controller, Controller::VENDOR_LOW);
+    tell_now(controller, Controller::VENDOR_HIGH);
+    tell_now(controller, Controller::REVISION);
+    tell_now(controller, Controller::DBCCR);
+    tell_now(controller, Controller::BSTR_0);
+    tell_now(controller, Controller::BCER_0);
+    tell_now(controller, Controller::BSTR_1);
+    tell_now(controller, Controller::BCER_1);
+    tell_now(controller, Controller::LETR);
+}
