@@ -1,5 +1,5 @@
 -- A record read back: the four fields of its four bytes, and the answer that has them (document 01, "Replies and refusal numbers").
-use Prim.Native.Nat.{ℕ, _+_, _*_, _/_, _%_}
+use Prim.Native.Nat.{ℕ, _+_, _*_, _/_, _%_, _^_}
 use mathlib.Core.List.{List, [], _∷_}
 use lib.ListN.{getD}
 use Rattle.bus.specs.declared.Reply.{Reply}
@@ -20,7 +20,7 @@ abbrev pub answerBy : ℕ → ℕ → ℕ → ℕ → Answer
 answerBy refusal reply byte outputs = getD (Done (replyBy reply byte) outputs ∷ Unfit ∷ StrayBit outputs ∷ []) refusal NotStarted
 
 abbrev pub answerIn : ℕ → Answer
-answerIn n = answerBy (n / 268435456) (n / 33554432 % 8) (n / 131072 % 256) (n / 256 % 512)
+answerIn n = answerBy (n / 2 ^ 28) (n / 2 ^ 25 % 8) (n / 2 ^ 17 % 256) (n / 2 ^ 8 % 512)
 
 unfoldable pub decode : List ℕ → Answer
 decode r = answerIn (numberOf r)

@@ -1,22 +1,22 @@
 -- What the registers and bays do has nothing to do with the command in progress: each rule does the same whatever has been heard.
 -- Assumes nothing.
-use Prim.Native.Nat.{ℕ, _%_}
-use mathlib.Core.Path.{_≡_, refl, ap, sym, _∙_}
+use Prim.Native.Nat.{ℕ}
+use mathlib.Core.Path.{_≡_, refl}
 use mathlib.Core.Bool.{Bool, true, false, cond}
-use mathlib.Core.List.{List, [], _∷_, map}
+use mathlib.Core.List.{List, [], _∷_}
 use lib.Dec.{eqb}
-use Rattle.bus.specs.declared.Progress.{Progress}
 use Rattle.bus.specs.declared.Progress.the-variants.{Idle}
 use Rattle.dock.specs.Record.{bayAt, withBay, isOpen}
 use Rattle.dock.specs.Outputs.{nibble, wants, outputsOf}
-use Rattle.dock.specs.Registers.{Row, at, find, dbccrOf, bstrAt, bcerAt, registers, register, readingOf, dbccrStored, dbccrWrite, letrWrite, bstrWrite, bcerWrite, written, writes}
+use Rattle.dock.specs.Registers.{Row, find, readingOf, dbccrStored, dbccrWrite, letrWrite, bstrWrite, bcerWrite, written, writes}
 use Rattle.dock.specs.Events.{sampledAt, tickedAt, pinsTo, tickTo, withProgress}
 use Rattle.dock.specs.declared.Controller.{Controller}
-use Rattle.demand.specs.Plain.{Plain, forget, idle, write, sample, tick, reading, outputs}
+use Rattle.dock.proofs.Decided.{reading-apart as any-command}
+use Rattle.demand.specs.Plain.{forget, idle, write, sample, tick, reading, outputs}
 
 pub reading-apart : (s : Controller) (a : ℕ) → reading (forget s) a ≡ readingOf s a
-unfolding reading readingOf register registers dbccrOf bstrAt bcerAt isOpen bayAt
-reading-apart s a = refl
+unfolding reading withProgress
+reading-apart s a = any-command s Idle a
 
 pub outputs-apart : (s : Controller) → outputs (forget s) ≡ outputsOf s
 unfolding outputs outputsOf nibble wants isOpen bayAt

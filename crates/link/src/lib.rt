@@ -7,7 +7,9 @@ ghost use Rattle.dock.specs.Record.{freshController};
 ghost use Rattle.dock.specs.Run.{after};
 ghost use Rattle.batch.specs.Batch.{bufferAfter};
 ghost use Rattle.link.specs.Link.{both, three, replayed, numbersOf, unpackedAs, meantBy, packedAs, readingAfter, outputsAfter};
+ghost use Rattle.link.specs.Link.{told as Link·told};
 use dock::Controller;
+use dock::Told;
 use event::Event;
 use event::Unpacked;
 
@@ -134,6 +136,13 @@ fn replay(words: &[u16]) -> Controller
     state
 }
 
+// What a question answered, as one number.
+fn answered(told: Told) -> u32
+    ensures { λ r. ⌜ r ≡ Link·told told ⌝ }
+{
+    both(told.refusal(), told.value())
+}
+
 // The refusal and one register's reading after a replay; refusal 5 for over 16,384 words.
 #[no_mangle]
 pub extern "C" fn dock_reading(words: &[u16], address: u8) -> u32
@@ -142,8 +151,7 @@ pub extern "C" fn dock_reading(words: &[u16], address: u8) -> u32
     if batch::MOST_WORDS < words.len() {
         return both(5, 0);
     }
-    let told = replay(words).reading(address);
-    both(told.refusal(), told.value())
+    answered(replay(words).reading(address))
 }
 
 // The refusal and the nine outputs after a replay; refusal 5 for over 16,384 words.
@@ -154,6 +162,5 @@ pub extern "C" fn dock_outputs(words: &[u16]) -> u32
     if batch::MOST_WORDS < words.len() {
         return both(5, 0);
     }
-    let told = replay(words).outputs();
-    both(told.refusal(), told.value())
+    answered(replay(words).outputs())
 }

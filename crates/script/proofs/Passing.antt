@@ -3,16 +3,15 @@
 use Prim.Native.Nat.{ℕ, zero, suc, _+_, _*_, _-_, _^_, _<_, _≤_}
 use native.Mathlib.Omega.{arith}
 use native.Mathlib.Numerals.{add-one}
-use mathlib.Core.Bool.{Bool, true, false, cond, Bool·beq, _&&_}
-use mathlib.Core.Path.{_≡_, refl, ap, _∙_}
+use mathlib.Core.Bool.{Bool, true, false, Bool·beq, _&&_}
+use mathlib.Core.Path.{_≡_, ap, _∙_}
 use mathlib.Core.List.{List, [], _∷_}
 use lib.ListN.{length, getD, drop, drop-of-length-le}
 use lib.Seq.{drop-cons, drop-length}
 use lib.Dec.{leb}
 use borrow.Author.Tests.{lt-ltb, le-ltb}
 use Rattle.script.specs.Text.{blank, leading, spelled, spelled64}
-use Rattle.script.specs.Arguments.{digitOf, countOf, countFrom}
-use Rattle.script.specs.declared.Number.{Number}
+use Rattle.script.specs.Arguments.{digitOf, none, countOf, countFrom}
 
 module _ (t : List ℕ) where
   -- The rest of the text at a place.
@@ -76,7 +75,7 @@ module _ (t : List ℕ) where
   abbrev fine : ℕ → ℕ → Bool
   fine n i = leb (digitOf (getD t i 0)) 9 && leb (n * 10 + digitOf (getD t i 0)) 65535
 
-  pub counts-stop : (n i : ℕ) → Counts n i → i < length t → fine n i ≡ false → countOf t ≡ record { good = false; value = 0 }
+  pub counts-stop : (n i : ℕ) → Counts n i → i < length t → fine n i ≡ false → countOf t ≡ none
   unfolding countFrom
   counts-stop n i h l e = h .1 ∙ rw (here i l, e)
 

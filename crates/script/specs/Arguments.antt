@@ -31,12 +31,16 @@ isOctet t = eqb (length t) 2 && (ltb (digitAt t 0) 16 && ltb (digitAt t 1) 16)
 unfoldable pub octetOf : List ℕ → Octet
 octetOf t = record { good = isOctet t; value = cond (isOctet t) (digitAt t 0 * 16 + digitAt t 1) 0 }
 
+-- A text that is no number.
+abbrev pub none : Number
+none = record { good = false; value = 0 }
+
 -- Four hex digits.
 unfoldable pub wordOf : List ℕ → Number
 wordOf t =
     cond (eqb (length t) 4)
     (record { good = octetOf (take 2 t) .good && octetOf (drop 2 t) .good; value = octetOf (take 2 t) .value * 256 + octetOf (drop 2 t) .value })
-    (record { good = false; value = 0 })
+    none
 
 -- A register, `=` and a value.
 unfoldable pub pairOf : List ℕ → Pair
@@ -53,7 +57,7 @@ pairOf t =
 unfoldable pub countFrom : ℕ → List ℕ → Number
 countFrom n [] = record { good = true; value = n }
 countFrom n (c ∷ cs) =
-    cond (leb (digitOf c) 9 && leb (n * 10 + digitOf c) 65535) (countFrom (n * 10 + digitOf c) cs) (record { good = false; value = 0 })
+    cond (leb (digitOf c) 9 && leb (n * 10 + digitOf c) 65535) (countFrom (n * 10 + digitOf c) cs) none
 
 unfoldable pub countOf : List ℕ → Number
 countOf t = countFrom 0 t
