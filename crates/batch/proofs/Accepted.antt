@@ -1,12 +1,10 @@
 -- What a batch's answer says of its state and its buffer: an accepted one had room for its records, and a refused one left both as
 -- they came. Assumes nothing.
 use Prim.Native.Nat.{ℕ, _*_, _≤_}
-use native.Mathlib.Omega.{arith}
-use mathlib.Core.Path.{_≡_, refl, sym, _∙_}
+use mathlib.Core.Path.{_≡_, refl}
 use mathlib.Core.Bool.{Bool, true, false, cond}
 use mathlib.Core.List.{List, [], _∷_}
 use lib.Dec.{T, ltb}
-use lib.ListN.{length}
 use borrow.Author.Tests.{ltb-false}
 use denote.Enum.Declared.{tagOf}
 use Rattle.bus.proofs.Cases.{among}

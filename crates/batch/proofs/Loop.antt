@@ -1,10 +1,10 @@
 -- The loop of a batch: after i words the state and the records are those of these words, and the rest of the buffer is as it came.
 -- Assumes nothing.
-use Prim.Native.Nat.{ℕ, suc, _+_, _*_, _<_, _≤_}
+use Prim.Native.Nat.{ℕ, _+_, _*_, _<_, _≤_}
 use native.Mathlib.Omega.{arith}
 use native.Mathlib.Numerals.{add-one}
 use mathlib.Core.Path.{_≡_, refl, ap, _∙_, sym}
-use mathlib.Core.List.{List, [], _∷_, _++_, append-assoc}
+use mathlib.Core.List.{List, _++_, append-assoc}
 use lib.ListN.{length, getD, take, drop, length-append, length-drop}
 use lib.Seq.{take-at, drop-at, drop-drop, take-length, length-take-le}
 use Rattle.dock.specs.Step.{stepOf}
@@ -12,7 +12,7 @@ use Rattle.dock.specs.Run.{after, answersTo}
 use Rattle.dock.specs.declared.Controller.{Controller}
 use Rattle.dock.proofs.Run.{after-next, answers-next, answers-length}
 use Rattle.batch.specs.Record.{recordOf, recordsOf}
-use Rattle.batch.proofs.Records.{record-length, records-length, records-append}
+use Rattle.batch.proofs.Records.{records-length, records-append}
 
 -- The first i of the words have been taken, from the state s₀ and the buffer b₀.
 pub record Taken (s₀ : Controller) (ws : List ℕ) (b₀ : List ℕ) (i : ℕ) (s : Controller) (b : List ℕ) : Type 0 where

@@ -1,12 +1,12 @@
 -- The theorems on batches (document 01, "Replies and refusal numbers"; demand 2, "alone or batched"). They are about the definitions
 -- of specs/, which the contract of `batch` gives as the whole answer and the whole buffer. Assumes nothing.
-use Prim.Native.Nat.{ℕ, suc, _+_, _*_, _<_, _≤_}
+use Prim.Native.Nat.{ℕ, suc, _+_, _*_, _<_}
 use native.Mathlib.Omega.{arith}
 use mathlib.Core.Path.{_≡_, refl, ap, sym, _∙_}
 use mathlib.Core.Bool.{Bool, true, false, cond}
 use mathlib.Core.List.{List, [], _∷_, _++_, append-assoc}
-use lib.ListN.{length, getD, take, drop, length-append, take-append-drop}
-use lib.Seq.{take-at, drop-at, drop-append-le, take-append-le, take-add, drop-drop, drop-cons, length-take-le}
+use lib.ListN.{length, getD, take, drop, take-append-drop}
+use lib.Seq.{take-at, drop-at, drop-cons, length-take-le}
 use denote.Ref.{RefT, now}
 use Rattle.dock.specs.Record.{fits}
 use Rattle.dock.specs.Step.{stepOf}
@@ -14,10 +14,10 @@ use Rattle.dock.specs.Run.{after, answersTo}
 use Rattle.dock.specs.Answers.{byteOf, outputsIn}
 use Rattle.dock.specs.declared.Controller.{Controller}
 use Rattle.dock.specs.declared.Answer.{Answer}
-use Rattle.dock.proofs.Run.{after-append, answers-append, answers-length, after-next, answers-next}
+use Rattle.dock.proofs.Run.{after-append, answers-append, answers-length}
 use Rattle.batch.specs.Record.{recordOf, recordsOf}
-use Rattle.batch.specs.Batch.{outcomeOf, stateBy, batchOf, bufferBy, bufferAfter}
-use Rattle.batch.specs.Outcome.{outcomeRefusal, outcomeCount}
+use Rattle.batch.specs.Batch.{outcomeOf, stateBy, batchOf, bufferAfter}
+use Rattle.batch.specs.Outcome.{outcomeCount}
 use Rattle.batch.specs.Decode.{decode}
 use Rattle.batch.specs.declared.Outcome.{Outcome}
 use Rattle.batch.specs.declared.Outcome.the-variants.{Done, Unfit}

@@ -1,8 +1,8 @@
 -- Many events in one call (document 01, "Replies and refusal numbers").
 use Prim.Native.Nat.{ℕ, _*_}
-use mathlib.Core.Bool.{Bool, cond}
-use mathlib.Core.List.{List, [], _∷_, _++_}
-use lib.Dec.{ltb, leb}
+use mathlib.Core.Bool.{cond}
+use mathlib.Core.List.{List, _++_}
+use lib.Dec.{ltb}
 use lib.ListN.{length, drop}
 use Rattle.dock.specs.Record.{fits}
 use Rattle.dock.specs.Run.{after, answersTo}

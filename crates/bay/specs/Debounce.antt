@@ -1,7 +1,7 @@
 -- Debounce (document 01, "Bay moves"). Each bay keeps three debounce counts, for 1394, USB and removal request.
 use Prim.Native.Nat.{ℕ, _+_}
 use mathlib.Core.Bool.{Bool, not, cond, _&&_, Bool·beq}
-use mathlib.Core.List.{List, [], _∷_}
+use mathlib.Core.List.{[], _∷_}
 use lib.Dec.{leb}
 use Rattle.bay.specs.Bits.{bit}
 use Rattle.bay.specs.Record.{N1394, NUSB, NREMREQ, acceptedLevel, count}

@@ -1,7 +1,7 @@
 -- What a TICK makes of a bay (document 01, "Bay moves"): it makes at most one move, presence first.
 use Prim.Native.Nat.{ℕ, _-_}
 use mathlib.Core.Bool.{Bool, not, cond, _&&_, _||_}
-use mathlib.Core.List.{List, [], _∷_}
+use mathlib.Core.List.{[], _∷_}
 use lib.Dec.{eqb}
 use Rattle.bay.specs.Record.{
   N1394,

@@ -1,9 +1,9 @@
 -- The other cases of a `let .. else` or of a `_`: what is known there is that the value's tag is one of some numbers. At each
 -- constructor the tag is a numeral, so that antt finds by computing whether it is among them. Assumes nothing.
 use Prim.Native.Nat.{ℕ}
-use mathlib.Core.Path.{_≡_, subst, sym}
+use mathlib.Core.Path.{_≡_, subst}
 use mathlib.Core.Bool.{Bool, true, false, _||_}
-use mathlib.Core.Logic.{_⊎_, inl, inr}
+use mathlib.Core.Logic.{inl, inr}
 use mathlib.Core.List.{List, [], _∷_}
 use lib.Dec.{T, eqb, eqb-refl}
 use types.Run.{OneOf}

@@ -1,22 +1,20 @@
 -- The controller's progress and the paper's description of an open command go hand in hand: at each point of a command the bus
 -- events since its START are the ones that lead there, and each bus event takes both to the same next point. Assumes nothing.
 use Prim.Native.Nat.{ℕ}
-use mathlib.Core.Path.{_≡_, refl, ap, sym, _∙_}
+use mathlib.Core.Path.{_≡_, refl, ap}
 use mathlib.Core.Bool.{Bool, true, false, cond}
-use mathlib.Core.List.{List, [], _∷_, _++_}
+use mathlib.Core.List.{List, [], _∷_}
 use lib.Dec.{eqb}
 use borrow.Author.Tests.{eq-eqb, eqb-true}
 use Rattle.bus.specs.Progress.{ownWrite, ownRead, started as onStart, heard}
 use Rattle.bus.specs.declared.Progress.{Progress}
 use Rattle.bus.specs.declared.Progress.the-variants.{Idle, Opened, Addressed, Register, Data, Again, Reading}
-use Rattle.bus.specs.declared.Heard.{Heard}
 use Rattle.bus.specs.declared.Heard.the-variants.{On, Read, End}
-use Rattle.bus.specs.declared.Reply.{Reply}
 use Rattle.bus.specs.declared.Reply.the-variants.{Nothing, Ack, NoAck, Driven, NotDriven}
-use Rattle.dock.specs.Registers.{readingOf, written}
+use Rattle.dock.specs.Registers.{readingOf}
 use Rattle.dock.specs.Events.{withProgress, stopAt, byteAt, takeAt}
 use Rattle.dock.specs.declared.Controller.{Controller}
-use Rattle.demand.specs.Plain.{Plain, forget, write, reading}
+use Rattle.demand.specs.Plain.{forget}
 use Rattle.demand.specs.Commands.{Bus, START, STOP, TAKE, BYTE, goesOn, decidesWrite, decidesRead, endsRead, registerIn, dataIn}
 use Rattle.demand.specs.Follow.{Follow, with-event, onBus}
 use Rattle.demand.proofs.Apart.{reading-apart, write-apart}

@@ -4,8 +4,8 @@
 -- The machine and the commands are those of specs/; a list's every beginning is a list, so what is said of its end is said after
 -- every event. Assumes nothing.
 use Prim.Native.Nat.{ℕ, _*_}
-use mathlib.Core.Path.{_≡_, refl, ap, sym, subst, _∙_}
-use mathlib.Core.Bool.{Bool, true, false, cond}
+use mathlib.Core.Path.{_≡_, refl, ap, sym, _∙_}
+use mathlib.Core.Bool.{false}
 use mathlib.Core.List.{List, [], _∷_, _++_}
 use lib.ListN.{length, drop}
 use denote.Ref.{RefT, now}
@@ -29,7 +29,7 @@ use Rattle.demand.specs.Commands.{Bus, decidesWrite}
 use Rattle.demand.specs.Follow.{Follow, freshFollow, straps, with-event, onBus, follow, repliesTo}
 use Rattle.demand.specs.Words.{accepted, repliesIn}
 use Rattle.demand.proofs.Apart.{reading-apart, outputs-apart}
-use Rattle.demand.proofs.Commands.{Stands, beside, Lands}
+use Rattle.demand.proofs.Commands.{Stands}
 use Rattle.demand.proofs.Follows.{Follows, words-follow}
 
 -- All 256 register readings and all nine outputs agree.

@@ -1,26 +1,26 @@
 -- The plain machine stays beside the controller, event by event and then word by word: refused words leave no trace in either.
 -- Assumes nothing.
-use Prim.Native.Nat.{ℕ, _≤_}
-use mathlib.Core.Path.{_≡_, refl, ap, sym, subst, _∙_}
-use mathlib.Core.Bool.{Bool, true, false, cond}
+use Prim.Native.Nat.{ℕ}
+use mathlib.Core.Path.{_≡_, refl, ap, sym, _∙_}
+use mathlib.Core.Bool.{Bool, true, false}
 use mathlib.Core.List.{List, [], _∷_}
-use Rattle.event.specs.Words.{unpacked, strapsOf}
+use Rattle.event.specs.Words.{unpacked}
 use Rattle.event.specs.declared.Event.{Event}
 use Rattle.event.specs.declared.Event.the-variants.{Start, Stop, Byte, Take, Pins, Tick, Reset, Timeout}
 use Rattle.event.specs.declared.Unpacked.{Unpacked}
 use Rattle.event.specs.declared.Unpacked.the-variants.{Accepted, StrayBit as NoEvent}
 use Rattle.event.proofs.Straps.{accepted-straps}
-use Rattle.dock.specs.Record.{fits, freshController}
+use Rattle.dock.specs.Record.{fits}
 use Rattle.dock.specs.Events.{resetTo, pinsTo, tickTo, withProgress, startTo, stopTo, byteTo, takeTo, actedOn}
-use Rattle.dock.specs.Step.{takes, stepFit, stepOf}
+use Rattle.dock.specs.Step.{takes, stepOf}
 use Rattle.dock.specs.Run.{after, answersTo}
 use Rattle.dock.specs.declared.Controller.{Controller}
 use Rattle.dock.proofs.Kept.{acted-started}
 use Rattle.dock.proofs.Laws.{step-fit}
-use Rattle.demand.specs.Plain.{freshPlain, sample, tick, reset}
+use Rattle.demand.specs.Plain.{reset}
 use Rattle.demand.specs.Commands.{Bus}
-use Rattle.demand.specs.Follow.{Follow, freshFollow, next, replyTo, follow, repliesTo}
-use Rattle.demand.specs.Words.{keep, accepted, reply, repliesIn}
+use Rattle.demand.specs.Follow.{next, replyTo, follow, repliesTo}
+use Rattle.demand.specs.Words.{accepted, reply, repliesIn}
 use Rattle.demand.proofs.Apart.{sample-apart, tick-apart}
 use Rattle.demand.proofs.Commands.{Stands, beside, Lands, start-lands, stop-lands, stop-reply, take-lands, take-reply, byte-lands, byte-reply}
 

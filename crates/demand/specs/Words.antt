@@ -1,10 +1,9 @@
 -- A list of event words with the refused ones dropped, and the replies of the answers that aren't refusals.
 use Prim.Native.Nat.{ℕ}
-use mathlib.Core.Bool.{Bool, true, false, cond}
+use mathlib.Core.Bool.{Bool, true, cond}
 use mathlib.Core.List.{List, [], _∷_}
 use Rattle.event.specs.Words.{unpacked}
 use Rattle.event.specs.declared.Event.{Event}
-use Rattle.event.specs.declared.Event.the-variants.{Start, Stop, Byte, Take, Pins, Tick, Reset, Timeout}
 use Rattle.event.specs.declared.Unpacked.{Unpacked}
 use Rattle.event.specs.declared.Unpacked.the-variants.{Accepted, StrayBit as NoEvent}
 use Rattle.bus.specs.declared.Reply.{Reply}

@@ -9,7 +9,7 @@ use Rattle.bus.specs.declared.Progress.{Progress}
 use Rattle.bus.specs.declared.Progress.the-variants.{Idle, Opened, Addressed, Register, Data, Again, Reading}
 use Rattle.bus.specs.declared.Heard.{Heard}
 use Rattle.bus.specs.declared.Heard.the-variants.{On, Read, End}
-use Rattle.bus.specs.declared.Reply.the-variants.{Ack, NoAck, Driven}
+use Rattle.bus.specs.declared.Reply.the-variants.{NoAck, Driven}
 use Rattle.dock.specs.Record.{bayAt, isOpen}
 use Rattle.dock.specs.Registers.{dbccrOf, bstrAt, bcerAt, registers, register, readingOf}
 use Rattle.dock.specs.Events.{resetTo, pinsTo, tickTo, withProgress, ended, startTo, stopAt, stopTo, byteAt, byteTo, takeAt, takeTo, actedOn}

@@ -2,7 +2,6 @@
 use Prim.Native.Nat.{ℕ}
 use mathlib.Core.Path.{_≡_, _∙_, sym}
 use mathlib.Core.Bool.{Bool}
-use Rattle.bay.specs.declared.Bay.{Bay}
 use Rattle.dock.specs.declared.Controller.{Controller}
 use Rattle.dock.specs.declared.Answer.{Answer}
 use Rattle.dock.specs.declared.Stepped.{Stepped}

@@ -1,20 +1,19 @@
 -- A fit controller stays fit, whatever word comes: the parts of fitness are taken apart, each rule keeps them, and they are put
 -- together again. Assumes nothing.
-use Prim.Native.Nat.{ℕ, zero, suc, _+_, _%_, _<_, _≤_}
+use Prim.Native.Nat.{ℕ, zero, suc, _%_, _<_, _≤_}
 use native.Mathlib.Omega.{arith}
-use mathlib.Core.Path.{_≡_, refl, sym, _∙_}
+use mathlib.Core.Path.{_≡_}
 use mathlib.Core.Logic.{_↔_}
-use mathlib.Core.Bool.{Bool, true, false, cond, _&&_, and-eq-true-iff}
-use lib.Dec.{eqb, ltb, leb}
+use mathlib.Core.Bool.{true, and-eq-true-iff}
+use lib.Dec.{eqb, ltb}
 use borrow.Author.Tests.{lt-ltb, le-leb, ltb-true, leb-true}
 use Rattle.bay.specs.declared.Bay.{Bay}
-use Rattle.bay.specs.Record.{bayFit, emptyBay}
+use Rattle.bay.specs.Record.{bayFit}
 use Rattle.bay.proofs.Taut.{pick}
 use Rattle.bay.proofs.Fit.{empty-fit, reset-fit, sampled-fit, ticked-fit, bstr-written-fit, controlled-fit}
-use Rattle.dock.specs.Record.{bay0, bay1, bayAt, withBay, fits, isOpen, lockMode, freshController}
+use Rattle.dock.specs.Record.{bayAt, withBay, fits, isOpen, freshController}
 use Rattle.dock.specs.Registers.{pulseTicks, dbccrStored, dbccrWrite, letrWrite, bstrWrite, bcerWrite, written}
 use Rattle.dock.specs.Events.{resetTo, sampledAt, tickedAt, pinsTo, nextPhase, tickTo, withProgress}
-use Rattle.dock.specs.Step.{stepOf}
 use Rattle.dock.specs.Kept.{Kept}
 use Rattle.dock.specs.declared.Controller.{Controller}
 use Rattle.dock.proofs.Bays.{each, put-each}

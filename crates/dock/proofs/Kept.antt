@@ -1,8 +1,8 @@
 -- A property that a RESET makes true and each rule keeps is true of every reached state: by cases on the event, and then along the
 -- list of words. Assumes nothing.
 use Prim.Native.Nat.{ℕ, _≤_}
-use mathlib.Core.Path.{_≡_, refl, subst, sym, _∙_}
-use mathlib.Core.Bool.{Bool, true, false, cond, true≢false, false≢true}
+use mathlib.Core.Path.{_≡_, refl, subst, _∙_}
+use mathlib.Core.Bool.{Bool, true, false, false≢true}
 use mathlib.Core.List.{List, [], _∷_}
 use lib.Dec.{eqb}
 use Rattle.event.specs.Words.{unpacked, strapsOf}
@@ -20,11 +20,10 @@ use Rattle.bus.specs.declared.Heard.the-variants.{On, Read, End}
 use Rattle.dock.specs.Record.{freshController, fits, isOpen, withBay}
 use Rattle.dock.specs.Registers.{dbccrStored, dbccrWrite, letrWrite, bstrWrite, bcerWrite, written, writes}
 use Rattle.dock.specs.Events.{resetTo, pinsTo, tickTo, withProgress, startTo, stopAt, stopTo, byteAt, byteTo, takeAt, takeTo, actedOn}
-use Rattle.dock.specs.Step.{takes, stepFit, stepOf, done, refused}
+use Rattle.dock.specs.Step.{takes, stepFit, stepOf}
 use Rattle.dock.specs.Run.{after, Reached}
 use Rattle.dock.specs.Kept.{Kept}
 use Rattle.dock.specs.declared.Controller.{Controller}
-use Rattle.dock.specs.declared.Answer.the-variants.{NotStarted, Unfit}
 use Rattle.dock.specs.declared.Stepped.{Stepped}
 
 -- What holds after a write to each register, and of no write at all, holds after a write to any address.

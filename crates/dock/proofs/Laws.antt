@@ -1,39 +1,25 @@
 -- What the controller's rules come to (document 01): the theorems that others cite. The first parts hold in every state, or in every
 -- fit one; the last only in states reached from a fresh controller. Assumes nothing.
-use Prim.Native.Nat.{ℕ, _<_, _≤_}
-use native.Mathlib.Omega.{arith}
-use mathlib.Core.Path.{_≡_, refl, sym, ap, _∙_}
+use Prim.Native.Nat.{ℕ}
+use mathlib.Core.Path.{_≡_, refl, ap, _∙_}
 use mathlib.Core.Logic.{_↔_, _≢_}
-use mathlib.Core.Bool.{Bool, true, false, not, cond, _&&_, _||_, true≢false, false≢true, and-false}
-use mathlib.Core.List.{List, [], _∷_}
+use mathlib.Core.Bool.{Bool, true, false, not, cond}
 use lib.Dec.{eqb}
-use Rattle.event.specs.Words.{unpacked, StrayBitSet}
-use Rattle.event.specs.declared.Event.{Event}
-use Rattle.event.specs.declared.Event.the-variants.{Start, Stop, Byte, Take, Pins, Tick, Reset, Timeout}
-use Rattle.event.specs.declared.Unpacked.{Unpacked}
-use Rattle.event.specs.declared.Unpacked.the-variants.{Accepted, StrayBit as NoEvent}
-use Rattle.event.proofs.Theorems.{words-refused}
 use Rattle.bay.specs.declared.Bay.{Bay}
 use Rattle.bay.specs.Bits.{bit}
 use Rattle.bay.specs.Record.{present, EMPTY, ENABLED}
-use Rattle.bay.specs.Registers.{controlOf, controlledBay}
+use Rattle.bay.specs.Registers.{controlOf}
 use Rattle.bay.proofs.Taut.{pick}
 use Rattle.bay.proofs.Laws.{power-needs-lock-and-device, enabled-keeps-power}
-use Rattle.bus.specs.declared.Progress.{Progress}
 use Rattle.bus.specs.declared.Progress.the-variants.{Data}
 use Rattle.bus.specs.declared.Reply.the-variants.{Nothing}
-use Rattle.dock.specs.Record.{bayAt, withBay, isOpen, fits, lockMode, freshController}
+use Rattle.dock.specs.Record.{bayAt, isOpen, fits, freshController}
 use Rattle.dock.specs.Outputs.{nibble, wants, outputsOf}
-use Rattle.dock.specs.Registers.{bstrAt, bcerAt, register, registers, readingOf, pulseTicks, bstrWrite, bcerWrite, written, writes}
-use Rattle.dock.specs.Events.{sampledAt, tickedAt, pinsTo, tickTo, withProgress, ended, stopAt, stopTo, actedOn}
-use Rattle.dock.specs.Answers.{refusalOf}
-use Rattle.dock.specs.Step.{takes, stepFit, stepOf, done, refused}
+use Rattle.dock.specs.Registers.{bstrAt, bcerAt, register, registers, readingOf, bstrWrite, bcerWrite, written, writes}
+use Rattle.dock.specs.Events.{sampledAt, tickedAt, pinsTo, tickTo, ended, stopAt, stopTo}
+use Rattle.dock.specs.Step.{stepOf}
 use Rattle.dock.specs.Run.{Reached}
-use Rattle.dock.specs.Sound.{Sound}
 use Rattle.dock.specs.declared.Controller.{Controller}
-use Rattle.dock.specs.declared.Answer.{Answer}
-use Rattle.dock.specs.declared.Answer.the-variants.{Done, Unfit, StrayBit, NotStarted}
-use Rattle.dock.specs.declared.Stepped.{Stepped}
 use Rattle.dock.proofs.Bays.{put-bay, other-kept}
 use Rattle.dock.proofs.Choice.{passed}
 use Rattle.dock.proofs.Kept.{step-keeps}

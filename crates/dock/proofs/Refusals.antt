@@ -3,8 +3,8 @@
 use Prim.Native.Nat.{ℕ}
 use native.Mathlib.Omega.{arith}
 use mathlib.Core.Path.{_≡_, refl, sym, ap, _∙_}
-use mathlib.Core.Logic.{_↔_, _≢_, _⊎_, inl, inr, ⊎-elim}
-use mathlib.Core.Bool.{Bool, true, false, cond, true≢false, false≢true}
+use mathlib.Core.Logic.{_≢_, _⊎_, inl, inr, ⊎-elim}
+use mathlib.Core.Bool.{Bool, true, false, true≢false, false≢true}
 use Rattle.event.specs.Words.{unpacked, StrayBitSet}
 use Rattle.event.specs.declared.Event.{Event}
 use Rattle.event.specs.declared.Event.the-variants.{Start, Stop, Byte, Take, Pins, Tick, Reset, Timeout}
@@ -14,7 +14,6 @@ use Rattle.event.proofs.Theorems.{words-refused}
 use Rattle.event.proofs.RoundTrip.{accepted-is-none}
 use Rattle.bay.proofs.Taut.{pick}
 use Rattle.dock.specs.Record.{fits}
-use Rattle.dock.specs.Events.{actedOn}
 use Rattle.dock.specs.Answers.{refusalOf}
 use Rattle.dock.specs.Step.{takes, stepFit, stepOf}
 use Rattle.dock.specs.Refusals.{IsReset, Exactly}

@@ -1,14 +1,13 @@
 -- A list of words cut anywhere: the state and the answers of its parts, one after the other, are those of the whole.
 -- Assumes nothing.
-use Prim.Native.Nat.{ℕ, zero, suc, _<_}
-use mathlib.Core.Path.{_≡_, refl, ap, _∙_, sym}
+use Prim.Native.Nat.{ℕ, suc, _<_}
+use mathlib.Core.Path.{_≡_, refl, ap}
 use mathlib.Core.List.{List, [], _∷_, _++_}
 use lib.ListN.{length, take, getD}
 use lib.Seq.{take-suc}
 use Rattle.dock.specs.Step.{stepOf}
 use Rattle.dock.specs.Run.{after, answersTo}
 use Rattle.dock.specs.declared.Controller.{Controller}
-use Rattle.dock.specs.declared.Answer.{Answer}
 
 pub after-append : (s : Controller) (xs ys : List ℕ) → after s (xs ++ ys) ≡ after (after s xs) ys
 unfolding after

@@ -1,8 +1,7 @@
 -- Every reached controller is sound: a RESET makes it so, and each rule keeps it so. Assumes nothing.
 use Prim.Native.Nat.{ℕ, _%_, _-_, _≤_}
-use native.Mathlib.Omega.{arith}
-use mathlib.Core.Path.{_≡_, refl, sym, ap, _∙_}
-use mathlib.Core.Bool.{Bool, true, false, not, cond, _&&_, true≢false, false≢true}
+use mathlib.Core.Path.{_≡_, refl, sym, _∙_}
+use mathlib.Core.Bool.{Bool, true, false, not, cond, true≢false}
 use lib.Dec.{eqb}
 use borrow.Author.Tests.{not-false}
 use Rattle.bay.specs.declared.Bay.{Bay}
@@ -15,7 +14,7 @@ use Rattle.bay.proofs.Taut.{pick}
 use Rattle.bay.proofs.Sound.{empty-sound, reset-sound, sampled-sound, ticked-sound, bstr-written-sound, controlled-sound}
 use Rattle.bus.specs.declared.Progress.{Progress}
 use Rattle.dock.specs.Record.{bayAt, withBay, isOpen, lockMode, freshController}
-use Rattle.dock.specs.Registers.{pulseTicks, dbccrStored, dbccrWrite, letrWrite, bstrWrite, bcerWrite, written}
+use Rattle.dock.specs.Registers.{dbccrStored, dbccrWrite, letrWrite, bstrWrite, bcerWrite, written}
 use Rattle.dock.specs.Events.{resetTo, sampledAt, tickedAt, pinsTo, tickTo, withProgress}
 use Rattle.dock.specs.Run.{Reached}
 use Rattle.dock.specs.Sound.{Sound}

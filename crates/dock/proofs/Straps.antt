@@ -2,7 +2,7 @@
 -- them can be exchanged: by computing. Assumes nothing.
 use Prim.Native.Nat.{ℕ}
 use mathlib.Core.Path.{_≡_, refl}
-use mathlib.Core.Bool.{Bool, true, false}
+use mathlib.Core.Bool.{true, false}
 use mathlib.Core.List.{List, [], _∷_, _++_, map}
 use Rattle.bay.specs.Record.{resetBay}
 use Rattle.bay.specs.Outputs.{lockPin, green, yellow, drives, interrupts}

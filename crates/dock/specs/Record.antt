@@ -1,13 +1,12 @@
 -- The controller's record: fresh, fit, and its parts by name (document 01, "Replies and refusal numbers" and "Registers").
 use Prim.Native.Nat.{ℕ, _%_}
-use mathlib.Core.Bool.{Bool, true, false, not, cond, _&&_, _||_}
+use mathlib.Core.Bool.{Bool, false, not, cond, _&&_, _||_}
 use mathlib.Core.List.{List, [], _∷_}
 use lib.Dec.{eqb, ltb, leb}
 use lib.ListN.{getD}
 use Rattle.bay.specs.Bits.{bit}
 use Rattle.bay.specs.Record.{emptyBay, bayFit}
 use Rattle.bay.specs.declared.Bay.{Bay}
-use Rattle.bus.specs.declared.Progress.{Progress}
 use Rattle.bus.specs.declared.Progress.the-variants.{Idle}
 use Rattle.dock.specs.declared.Controller.{Controller}
 

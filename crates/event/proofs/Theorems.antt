@@ -1,13 +1,13 @@
 -- The theorems on event words (document 01, "Event words"; demand 2: "Events and packed words that aren't refused convert each
 -- into the other without change"). They are about the definitions of `specs/Words.antt`, which the contracts of `unpack` and
 -- `pack` give as the whole answer. Assumes nothing.
-use Prim.Native.Nat.{ℕ, _^_, _<_, _≤_}
+use Prim.Native.Nat.{ℕ, _^_, _<_}
 use native.Mathlib.Omega.{arith}
 use mathlib.Core.Path.{_≡_, refl, _∙_, sym}
 use mathlib.Core.Logic.{_↔_}
 use mathlib.Core.Bool.{Bool, true, false}
 use lib.Dec.{ltb}
-use borrow.Author.Tests.{lt-ltb, le-ltb, ltb-true, ltb-false}
+use borrow.Author.Tests.{ltb-true, ltb-false}
 use Rattle.event.specs.Words.{kindOf, fieldOf, bitsOf, eventOf, accept, unpacked, StrayBitSet, wordOf, strapsOf, wordUnless, packed, Bytes}
 use Rattle.event.specs.declared.Event.{Event}
 use Rattle.event.specs.declared.Unpacked.{Unpacked}

@@ -2,7 +2,6 @@
 -- ensures. Assumes nothing.
 use mathlib.Core.Path.{_≡_}
 use lib.ListN.{length}
-use native.Mathlib.Omega.{arith}
 use borrow.Author.Needs.{needs}
 use Rattle.bay.specs.Moves.{tickedBay}
 use Rattle.bay.proofs.Ticks.{steady}

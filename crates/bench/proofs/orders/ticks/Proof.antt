@@ -2,10 +2,9 @@
 -- left. Assumes nothing.
 use Prim.Native.Nat.{ℕ, _≤_, _-_}
 use native.Mathlib.Omega.{arith}
-use mathlib.Core.Path.{_≡_, refl, ap, _∙_, sym}
+use mathlib.Core.Path.{_≡_, refl, ap, _∙_}
 use lib.ListN.{replicate}
 use Rattle.event.specs.declared.Event.the-variants.{Tick}
-use Rattle.dock.specs.Step.{stepOf}
 use Rattle.dock.specs.Run.{after}
 use Rattle.dock.specs.declared.Stepped.{Stepped}
 use Rattle.bench.specs.Orders.{wordFor}

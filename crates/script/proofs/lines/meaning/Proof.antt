@@ -1,6 +1,5 @@
 -- `script::lines::meaning` meets its contract: the words are the definition's, and each way out is one of its cases. Assumes
 -- nothing.
-use mathlib.Core.Path.{_∙_}
 use borrow.Author.Needs.{needs}
 use borrow.Author.Tests.{eq-eqb, ne-eqb}
 use Rattle.script.specs.Lines.{textLine, lineOf}
