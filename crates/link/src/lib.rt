@@ -13,6 +13,11 @@ use dock::Told;
 use event::Event;
 use event::Unpacked;
 
+// The refusals that the library gives itself: numbers that are no event's, and over 16,384 words.
+const NO_EVENT: u8 = 2;
+
+const TOO_MANY_WORDS: u8 = 5;
+
 // What three numbers mean.
 enum Meant {
     This(Event),
@@ -116,7 +121,7 @@ pub extern "C" fn dock_pack(kind: u8, first: u8, second: u8) -> u32
     ensures { λ r. ⌜ r ≡ packedAs kind first second ⌝ }
 {
     let Meant::This(event) = event_by(kind, first, second) else {
-        return both(2, 0);
+        return both(NO_EVENT, 0);
     };
     let packed = event::pack(event);
     both(packed.refusal(), packed.word())
@@ -149,7 +154,7 @@ pub extern "C" fn dock_reading(words: &[u16], address: u8) -> u32
     ensures { λ r. ⌜ r ≡ readingAfter (now (words .entry)) address ⌝ }
 {
     if batch::MOST_WORDS < words.len() {
-        return both(5, 0);
+        return both(TOO_MANY_WORDS, 0);
     }
     answered(replay(words).reading(address))
 }
@@ -160,7 +165,7 @@ pub extern "C" fn dock_outputs(words: &[u16]) -> u32
     ensures { λ r. ⌜ r ≡ outputsAfter (now (words .entry)) ⌝ }
 {
     if batch::MOST_WORDS < words.len() {
-        return both(5, 0);
+        return both(TOO_MANY_WORDS, 0);
     }
     answered(replay(words).outputs())
 }
