@@ -1,6 +1,6 @@
 // Texts on standard output.
+use hex::digit;
 use libc::STDOUT_FILENO;
-use script::hex::digit;
 
 pub(crate) fn say(text: &[u8]) {
     io::write_all(STDOUT_FILENO, text);

@@ -9,15 +9,14 @@ use lib.ListN.{take, drop}
 use borrow.Author.Tests.{ltb-true, ltb-false, leb-false, le-leb, lt-leb}
 use denote.Ref.{RefT}
 use Rattle.bytes.specs.Bytes.{indexOf}
+use Rattle.hex.specs.Digit.{digitFor}
 use Rattle.script.specs.Text.{characters, blank, leading, trimmed, first, rest, spelled, spelled64}
 use Rattle.script.specs.Verbs.{name, verbs, verbOf}
-use Rattle.script.specs.Hex.{digitFor}
 use Rattle.script.specs.Arguments.{digitOf, isOctet, octetOf, wordOf, pairOf, countFrom, countOf, ticksOf}
 use Rattle.script.specs.Lines.{given, resetLine, takeLine, writeLine, orderLine, plain, textLine, lineOf}
 use Rattle.script.specs.Examples.{Example, examples}
 use Rattle.script.specs.declared.Line.{Line}
 use Rattle.script.proofs.lines.meaning.Reads as meaning-reads
-use Rattle.script.proofs.hex.digit.Reads as digit-reads
 
 -- Each of the examples means what it is said to mean.
 pub examples-hold : map (λ (e : Example). lineOf (characters (e .typed))) examples ≡ map (λ (e : Example). e .means) examples
@@ -91,6 +90,3 @@ digit-back n = go (ltb (n % 16) 10) refl
 pub meaning-determined :
     (κs : _) (line : RefT (List ℕ)) (r s : Line) → meaning-reads.Post κs (line, tt) r (line, tt) → meaning-reads.Post κs (line, tt) s (line, tt) → r ≡ s
 meaning-determined κs line r s p q = p ∙ sym q
-
-pub digit-determined : (n r s : ℕ) → digit-reads.Post tt (n, tt) r (n, tt) → digit-reads.Post tt (n, tt) s (n, tt) → r ≡ s
-digit-determined n r s p q = p ∙ sym q

@@ -1,4 +1,3 @@
-pub mod Hex
 pub mod Text
 pub mod Verbs
 pub mod Arguments

@@ -1,7 +1,6 @@
 // The bench's language: what a line that a person typed asks for, or what is wrong with it. docs/BENCH.md describes
 // it for people; specs/ has the same as definitions.
 mod arguments;
-pub mod hex;
 mod lines;
 mod text;
 mod verbs;

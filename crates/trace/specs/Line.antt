@@ -2,9 +2,9 @@
 -- of 4, 2 and 3 digits, the others decimal; refusals and replies have one digit). Characters are their ASCII numbers.
 use Prim.Native.Nat.{ℕ, _/_}
 use mathlib.Core.List.{List, [], _∷_}
-use Rattle.dock.specs.Answers.{refusalOf, replyOf, byteOf, outputsIn}
+use Rattle.dock.specs.Answers.{refusalOf, replyOf, byteOf, outputsOf}
 use Rattle.dock.specs.declared.Answer.{Answer}
-use Rattle.script.specs.Hex.{digitFor}
+use Rattle.hex.specs.Digit.{digitFor}
 
 abbrev space : ℕ
 space = 32
@@ -18,5 +18,5 @@ lineOf w a =
     ∷ digitFor (refusalOf a) ∷ space
     ∷ digitFor (replyOf a) ∷ space
     ∷ digitFor (byteOf a / 16) ∷ digitFor (byteOf a) ∷ space
-    ∷ digitFor (outputsIn a / 256) ∷ digitFor (outputsIn a / 16) ∷ digitFor (outputsIn a) ∷ newline
+    ∷ digitFor (outputsOf a / 256) ∷ digitFor (outputsOf a / 16) ∷ digitFor (outputsOf a) ∷ newline
     ∷ []

@@ -3,7 +3,7 @@
 ghost use mathlib.Core.Path.{_≡_};
 ghost use Rattle.trace.specs.Line.{lineOf};
 use dock::Answer;
-use script::hex::digit;
+use hex::digit;
 
 // The bytes of a line, with its end.
 pub const LINE: usize = 16;

@@ -1,9 +1,9 @@
--- `script::hex::digit` meets its contract: the test is the one by which the definition chooses. Assumes nothing.
+-- `hex::digit` meets its contract: the test is the one by which the definition chooses. Assumes nothing.
 use borrow.Author.Tests.{lt-ltb, le-ltb}
 use borrow.Author.Needs.{needs}
-use Rattle.script.specs.Hex.{digitFor}
-use Rattle.script.proofs.hex.digit.Statement.{statement}
-use Rattle.script.proofs.hex.digit.Tie as tie
+use Rattle.hex.specs.Digit.{digitFor}
+use Rattle.hex.proofs.digit.Statement.{statement}
+use Rattle.hex.proofs.digit.Tie as tie
 
 returns : tie.Need-returns
 unfolding digitFor

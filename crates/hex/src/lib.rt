@@ -1,6 +1,6 @@
-// Numbers as texts.
+// Numbers as texts: upper-case hex, as the trace and the bench write it.
 ghost use mathlib.Core.Path.{_≡_};
-ghost use Rattle.script.specs.Hex.{digitFor};
+ghost use Rattle.hex.specs.Digit.{digitFor};
 
 // The character of the lowest hex digit of a number.
 pub fn digit(n: u16) -> u8
