@@ -21,8 +21,6 @@ use Rattle.bay.proofs.Control.of.Reads as control-of-reads
 use Rattle.bay.proofs.Bay.outputs.Reads as outputs-reads
 use Rattle.bay.proofs.Bay.interrupt.Reads as interrupt-reads
 use Rattle.bay.proofs.debounce.debounced.Reads as debounced-reads
-use Rattle.bay.proofs.bits.has.Reads as has-reads
-use Rattle.bay.proofs.bits.put.Reads as put-reads
 
 pub empty-determined : (r s : Bay) → empty-reads.Post tt tt r tt → empty-reads.Post tt tt s tt → r ≡ s
 empty-determined r s p q = p ∙ sym q
@@ -68,9 +66,3 @@ interrupt-determined b r s p q = p ∙ sym q
 
 pub debounced-determined : (length : ℕ) (level accepted : Bool) (n : ℕ) (r s : Input) → debounced-reads.Post tt (length, (level, (accepted, (n, tt)))) r (length, (level, (accepted, (n, tt)))) → debounced-reads.Post tt (length, (level, (accepted, (n, tt)))) s (length, (level, (accepted, (n, tt)))) → r ≡ s
 debounced-determined length level accepted n r s p q = p ∙ sym q
-
-pub has-determined : (v weight : ℕ) (r s : Bool) → has-reads.Post tt (v, (weight, tt)) r (v, (weight, tt)) → has-reads.Post tt (v, (weight, tt)) s (v, (weight, tt)) → r ≡ s
-has-determined v weight r s p q = p ∙ sym q
-
-pub put-determined : (on : Bool) (weight : ℕ) (r s : ℕ) → put-reads.Post tt (on, (weight, tt)) r (on, (weight, tt)) → put-reads.Post tt (on, (weight, tt)) s (on, (weight, tt)) → r ≡ s
-put-determined on weight r s p q = p .0 ∙ sym (q .0)

@@ -7,7 +7,7 @@ use mathlib.Core.Bool.{Bool, true, false, not, cond, _&&_, Bool·beq, and-eq-tru
 use mathlib.Core.Logic.{_↔_}
 use lib.Dec.{leb, eqb}
 use borrow.Author.Tests.{lt-ltb, le-leb, ltb-true, leb-true, leb-false}
-use Rattle.bay.specs.Record.{N1394, NUSB, NREMREQ, TICKS, EMPTY, INSERTED, REMOVAL-REQUESTED, REMOVAL-ALLOWED, count, present, emptyBay, resetBay, bayFit}
+use Rattle.bay.specs.Record.{N1394, NUSB, NREMREQ, TICKS, EMPTY, INSERTED, REMOVAL-REQUESTED, REMOVAL-ALLOWED, MOST-PULSE, count, present, emptyBay, resetBay, bayFit}
 use Rattle.bay.specs.Debounce.{differs, settles, debounce, restart, sampledBay}
 use Rattle.bay.specs.Moves.{input, leaves, inUse, stateAfter, movedBay, tickedBay}
 use Rattle.bay.specs.Registers.{bstrWritten, asks, requestWritten, stateWritten, pulseWritten, controlledBay}
@@ -21,8 +21,8 @@ pub record Fits (b : Bay) : Type 0 where
   pub nusb : count b NUSB < TICKS
   pub nremreq : count b NREMREQ < TICKS
   pub in-state : b .state ≤ REMOVAL-ALLOWED
-  pub asked : b .request ≤ REMOVAL-ALLOWED
-  pub pulsed : b .pulse ≤ 200
+  pub asked : b .control .request ≤ REMOVAL-ALLOWED
+  pub pulsed : b .pulse ≤ MOST-PULSE
 
 pub fit-parts : (b : Bay) → bayFit b ≡ true ↔ Fits b
 unfolding bayFit
@@ -89,14 +89,14 @@ moves-to-state false false false x s f h = h
 state-after-fits : (b : Bay) (gone come press : Bool) → b .state ≤ REMOVAL-ALLOWED → stateAfter b gone come press ≤ REMOVAL-ALLOWED
 unfolding stateAfter
 state-after-fits b gone come press h =
-    moves-to-state gone (come && b .«devstschg_en») (press && b .«remreq_en» && not (b .«remreq_sts») && inUse b) EMPTY (b .state)
+    moves-to-state gone (come && b .control .«devstschg_en») (press && b .control .«remreq_en» && not (b .«remreq_sts») && inUse b) EMPTY (b .state)
     (λ _. omega arith) h
 
 state-written-fits : (c : Control) (device : Bool) (b : Bay) → b .state ≤ REMOVAL-ALLOWED → stateWritten c device b ≤ REMOVAL-ALLOWED
 unfolding stateWritten
 state-written-fits c device b h =
-    moves-to-state (asks c && device) (c .«devstschg_en» && not (b .«devstschg_en») && eqb (b .state) EMPTY && device)
-    (c .«remreq_en» && not (b .«remreq_en») && b .«remreq_sts» && inUse b) (c .request) (b .state)
+    moves-to-state (asks c && device) (c .«devstschg_en» && not (b .control .«devstschg_en») && eqb (b .state) EMPTY && device)
+    (c .«remreq_en» && not (b .control .«remreq_en») && b .«remreq_sts» && inUse b) (c .request) (b .state)
     (λ a. asked-is-state c (and-eq-true-iff (asks c) device .0 a .0)) h
 
 -- The bays that a closing and RESET make are fit ..
@@ -142,7 +142,7 @@ unfolding bayFit bstrWritten
 bstr-written-fit v b h = h
 
 -- A pulse is as long as LETR's ticks at most, so these are bounded too.
-pub controlled-fit : (c : Control) (mode : Bool) (ticks : ℕ) (b : Bay) → ticks ≤ 200 → bayFit b ≡ true → bayFit (controlledBay c mode ticks b) ≡ true
+pub controlled-fit : (c : Control) (mode : Bool) (ticks : ℕ) (b : Bay) → ticks ≤ MOST-PULSE → bayFit b ≡ true → bayFit (controlledBay c mode ticks b) ≡ true
 unfolding controlledBay requestWritten pulseWritten
 controlled-fit c mode ticks b l h =
     let f = fit-parts b .0 h in
@@ -153,5 +153,5 @@ controlled-fit c mode ticks b l h =
       nremreq = f .nremreq;
       in-state = state-written-fits c (present b) b (f .in-state);
       asked = pick (λ r. r ≤ REMOVAL-ALLOWED) (asks c) (asked-is-state c) (λ _. f .asked);
-      pulsed = pick (λ p. p ≤ 200) (mode && b .«lock_ctl» && not (c .«lock_ctl»)) (λ _. l) (λ _. f .pulsed);
+      pulsed = pick (λ p. p ≤ MOST-PULSE) (mode && b .control .«lock_ctl» && not (c .«lock_ctl»)) (λ _. l) (λ _. f .pulsed);
     }

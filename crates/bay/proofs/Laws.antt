@@ -7,12 +7,12 @@ use mathlib.Core.Path.{_≡_, refl, sym, _∙_}
 use mathlib.Core.Logic.{_↔_, _⊎_, inl, inr}
 use mathlib.Core.Bool.{Bool, true, false, not, cond, _&&_, _||_, and-eq-true-iff, and-true, and-false, and-not-self, not-and-self, or-true, or-false}
 use borrow.Author.Tests.{lt-ltb, le-leb, lt-leb}
-use Rattle.bay.specs.Bits.{put}
+use Rattle.bits.specs.Bits.{put}
 use Rattle.bay.specs.Record.{N1394, NUSB, NREMREQ, EMPTY, ENABLED, REMOVAL-REQUESTED, REMOVAL-ALLOWED, level, acceptedLevel, count, present}
 use Rattle.bay.specs.Debounce.{differs, sampledBay}
 use Rattle.bay.specs.Moves.{input, leaves, pressed, presentAfter, inUse, stateAfter, movedBay, tickedBay}
 use Rattle.bay.specs.Registers.{bstrOf, bcerOf, asks, stateWritten, requestWritten, controlledBay}
-use Rattle.bay.specs.Outputs.{lockPin, green, yellow, drives}
+use Rattle.bay.specs.Outputs.{lockPin, green, yellow, bayOutputs}
 use Rattle.bay.specs.Held.{afterTicks, tickedFor}
 use Rattle.bay.specs.Sound.{Sound}
 use Rattle.bay.specs.declared.Bay.{Bay}
@@ -24,7 +24,7 @@ use Rattle.bay.proofs.Length.{counting, settledAt, counts-up, settles-l
 -- After a write PWR_CTL is 1 exactly if it was written 1 with LOCK_CTL written 1 and a device present.
 pub power-needs-lock-and-device :
     (c : Control) (mode : Bool) (ticks : ℕ) (b : Bay)
-    → (controlledBay c mode ticks b .«pwr_ctl» ≡ true) ↔ ((c .«pwr_ctl» ≡ true) × (c .«lock_ctl» ≡ true) × (present b ≡ true))
+    → (controlledBay c mode ticks b .control .«pwr_ctl» ≡ true) ↔ ((c .«pwr_ctl» ≡ true) × (c .«lock_ctl» ≡ true) × (present b ≡ true))
 unfolding controlledBay
 power-needs-lock-and-device c mode ticks b = (parts, λ h. rw (h .0, h .1, h .2))
   where
@@ -44,13 +44,13 @@ present-after b = refl
 -- What a removal does: Empty, stored request 0, PWR_CTL 0, and LOCK_CTL as it was.
 pub record Removed (before after : Bay) : Type 0 where
   pub emptied : after .state ≡ EMPTY
-  pub request-gone : after .request ≡ 0
-  pub power-off : after .«pwr_ctl» ≡ false
-  pub lock-kept : after .«lock_ctl» ≡ before .«lock_ctl»
+  pub request-gone : after .control .request ≡ 0
+  pub power-off : after .control .«pwr_ctl» ≡ false
+  pub lock-kept : after .control .«lock_ctl» ≡ before .control .«lock_ctl»
 
 removed : (b : Bay) → leaves b (input b N1394) (input b NUSB) ≡ true → Removed b (tickedBay b)
 unfolding tickedBay movedBay stateAfter
-removed b l = record { emptied = rw l; request-gone = rw l; power-off = rw l (and-false (b .«pwr_ctl»)); lock-kept = refl }
+removed b l = record { emptied = rw l; request-gone = rw l; power-off = rw l (and-false (b .control .«pwr_ctl»)); lock-kept = refl }
 
 -- A TICK in which the device leaves.
 pub removal : (b : Bay) → present b ≡ true → present (tickedBay b) ≡ false → Removed b (tickedBay b)
@@ -65,19 +65,19 @@ stays b h = rw (← (present-after b)) (go (present b) (present (tickedBay b)) h
     go false q h = refl
 
 -- .. and PWR_CTL is kept.
-power-kept : (b : Bay) → leaves b (input b N1394) (input b NUSB) ≡ false → tickedBay b .«pwr_ctl» ≡ b .«pwr_ctl»
+power-kept : (b : Bay) → leaves b (input b N1394) (input b NUSB) ≡ false → tickedBay b .control .«pwr_ctl» ≡ b .control .«pwr_ctl»
 unfolding tickedBay movedBay
-power-kept b l = rw l (and-true (b .«pwr_ctl»))
+power-kept b l = rw l (and-true (b .control .«pwr_ctl»))
 
 -- A TICK in which the device doesn't leave keeps PWR_CTL.
-pub tick-keeps-power : (b : Bay) → (present b ≡ true → present (tickedBay b) ≡ true) → tickedBay b .«pwr_ctl» ≡ b .«pwr_ctl»
+pub tick-keeps-power : (b : Bay) → (present b ≡ true → present (tickedBay b) ≡ true) → tickedBay b .control .«pwr_ctl» ≡ b .control .«pwr_ctl»
 tick-keeps-power b h = power-kept b (stays b h)
 
 -- A powered bay that is Enabled after a TICK is still powered.
-pub enabled-keeps-power : (b : Bay) → b .«pwr_ctl» ≡ true → tickedBay b .state ≡ ENABLED → tickedBay b .«pwr_ctl» ≡ true
+pub enabled-keeps-power : (b : Bay) → b .control .«pwr_ctl» ≡ true → tickedBay b .state ≡ ENABLED → tickedBay b .control .«pwr_ctl» ≡ true
 enabled-keeps-power b w e = go (leaves b (input b N1394) (input b NUSB)) refl
   where
-    go : (t : Bool) → leaves b (input b N1394) (input b NUSB) ≡ t → tickedBay b .«pwr_ctl» ≡ true
+    go : (t : Bool) → leaves b (input b N1394) (input b NUSB) ≡ t → tickedBay b .control .«pwr_ctl» ≡ true
     go true l = absurd (omega (arith, removed b l .emptied))
     go false l = power-kept b l ∙ w
 
@@ -85,20 +85,20 @@ enabled-keeps-power b w e = go (leaves b (input b N1394) (input b NUSB)) refl
 
 -- The accepted press of this TICK, if there is one, moves the bay.
 abbrev pub pressMoves : Bay → Bool
-pressMoves b = pressed (input b NREMREQ) && b .«remreq_en» && not (b .«remreq_sts») && inUse b
+pressMoves b = pressed (input b NREMREQ) && b .control .«remreq_en» && not (b .«remreq_sts») && inUse b
 
 -- A bay whose device neither leaves nor arrives is moved by a press only: its state is otherwise as it was, and its stored request and
 -- PWR_CTL are kept.
 pub record Stayed (before after : Bay) : Type 0 where
   pub state-kept : after .state ≡ cond (pressMoves before) REMOVAL-REQUESTED (before .state)
-  pub request-kept : after .request ≡ before .request
-  pub power-kept : after .«pwr_ctl» ≡ before .«pwr_ctl»
+  pub request-kept : after .control .request ≡ before .control .request
+  pub power-kept : after .control .«pwr_ctl» ≡ before .control .«pwr_ctl»
 
 stayed : (b : Bay) → present (tickedBay b) ≡ present b → Stayed b (tickedBay b)
 unfolding tickedBay movedBay stateAfter
 stayed b s =
     let q = sym (present-after b) ∙ s in
-    record { state-kept = rw (q, and-not-self, not-and-self); request-kept = rw (q, and-not-self); power-kept = rw (q, and-not-self) (and-true (b .«pwr_ctl»)) }
+    record { state-kept = rw (q, and-not-self, not-and-self); request-kept = rw (q, and-not-self); power-kept = rw (q, and-not-self) (and-true (b .control .«pwr_ctl»)) }
 
 -- Present means accepted 1394 or USB.
 either : (i : ℕ) → i < 2 → (b : Bay) → acceptedLevel b i ≡ false → present b ≡ true
@@ -131,7 +131,7 @@ held-button b h s = (stayed b s .state-kept ∙ rw h, pressed-sets b ∙ rw h (o
 
 -- A request of 0 or 5-7 keeps the stored one.
 pub request-0-kept :
-    (c : Control) (mode : Bool) (ticks : ℕ) (b : Bay) → (c .request ≡ 0) ⊎ (REMOVAL-ALLOWED < c .request) → controlledBay c mode ticks b .request ≡ b .request
+    (c : Control) (mode : Bool) (ticks : ℕ) (b : Bay) → (c .request ≡ 0) ⊎ (REMOVAL-ALLOWED < c .request) → controlledBay c mode ticks b .control .request ≡ b .control .request
 unfolding controlledBay requestWritten asks
 request-0-kept c mode ticks b (inl z) = rw z
 request-0-kept c mode ticks b (inr l) = rw (lt-leb (c .request) REMOVAL-ALLOWED l, and-false)
@@ -142,7 +142,7 @@ unfolding asks
 asks-to c l h = rw (lt-ltb EMPTY (c .request) l, le-leb (c .request) REMOVAL-ALLOWED h)
 
 pub request-stored :
-    (c : Control) (mode : Bool) (ticks : ℕ) (b : Bay) → 0 < c .request → c .request ≤ REMOVAL-ALLOWED → controlledBay c mode ticks b .request ≡ c .request
+    (c : Control) (mode : Bool) (ticks : ℕ) (b : Bay) → 0 < c .request → c .request ≤ REMOVAL-ALLOWED → controlledBay c mode ticks b .control .request ≡ c .request
 unfolding controlledBay requestWritten
 request-stored c mode ticks b l h = rw (asks-to c l h)
 
@@ -185,17 +185,17 @@ unfolding bcerOf
 bcer-byte b =
     omega (
       arith,
-      put-most 7 (b .«lock_ctl»),
-      put-most 3 (b .«remreq_en»),
-      put-most 2 (b .«devstschg_en»),
-      put-most 1 (b .«remevtwak_en»),
-      put-most 0 (b .«pwr_ctl»),
+      put-most 7 (b .control .«lock_ctl»),
+      put-most 3 (b .control .«remreq_en»),
+      put-most 2 (b .control .«devstschg_en»),
+      put-most 1 (b .control .«remevtwak_en»),
+      put-most 0 (b .control .«pwr_ctl»),
     )
 
-pub drives-nibble : (mode lit : Bool) (b : Bay) → drives mode lit b < 16
-unfolding drives
-drives-nibble mode lit b =
-    omega (arith, put-most 3 (b .«pwr_ctl»), put-most 2 (lockPin mode b), put-most 1 (green lit b), put-most 0 (yellow lit b))
+pub outputs-nibble : (mode lit : Bool) (b : Bay) → bayOutputs mode lit b < 16
+unfolding bayOutputs
+outputs-nibble mode lit b =
+    omega (arith, put-most 3 (b .control .«pwr_ctl»), put-most 2 (lockPin mode b), put-most 1 (green lit b), put-most 0 (yellow lit b))
 
 -- ---- debounce
 

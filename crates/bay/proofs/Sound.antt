@@ -9,7 +9,7 @@ use mathlib.Core.List.{[], _∷_}
 use lib.ListN.{getD}
 use lib.Dec.{eqb, ltb, leb}
 use borrow.Author.Tests.{eq-eqb, ne-eqb, eqb-true, eqb-false, not-true}
-use Rattle.bay.specs.Record.{N1394, NUSB, NREMREQ, EMPTY, INSERTED, ENABLED, present, level, acceptedLevel, count, emptyBay, resetBay, bayFit}
+use Rattle.bay.specs.Record.{N1394, NUSB, NREMREQ, EMPTY, INSERTED, ENABLED, present, level, acceptedLevel, count, emptyBay, resetBay, bayFit, withStatus}
 use Rattle.bay.specs.Debounce.{debounce, restart, sampledBay}
 use Rattle.bay.specs.Moves.{input, pressed, presentAfter, inUse, stateAfter, movedBay, tickedBay}
 use Rattle.bay.specs.Registers.{bstrWritten, asks, stateWritten, controlledBay}
@@ -70,8 +70,8 @@ asked-rules-out c = rules-out (λ r. ltb EMPTY r && leb r 4) (c .request) refl
 
 -- p and q are the device before and after, e is Empty, and x stands for the rest of a press's conditions beside the state in use, u.
 placed-ticked :
-    (b : Bay) (q press : Bool) → placed (present b) (empty (b .state)) (b .«devstschg_en») ≡ true
-    → placed q (empty (stateAfter b (present b && not q) (not (present b) && q) press)) (b .«devstschg_en») ≡ true
+    (b : Bay) (q press : Bool) → placed (present b) (empty (b .state)) (b .control .«devstschg_en») ≡ true
+    → placed q (empty (stateAfter b (present b && not q) (not (present b) && q) press)) (b .control .«devstschg_en») ≡ true
 unfolding stateAfter
 placed-ticked b q press h =
     rw (empty-pick, empty-pick, empty-pick)
@@ -80,12 +80,12 @@ placed-ticked b q press h =
     (λ p q en x u e.
     implies (placed p e en && implies u (not e))
     (placed q (cond (p && not q) true (cond (not p && q && en) false (cond (x && u) false e))) en))
-    refl (present b) q (b .«devstschg_en») (press && b .«remreq_en» && not (b .«remreq_sts»)) (inUse b) (empty (b .state)))
+    refl (present b) q (b .control .«devstschg_en») (press && b .control .«remreq_en» && not (b .«remreq_sts»)) (inUse b) (empty (b .state)))
     (and-eq-true-iff _ _ .1 (h, in-use-rules-out b)))
 
 -- a is that the request is stored, r that it is Empty, and m DEVSTSCHG_EN as written.
 placed-written :
-    (c : Control) (b : Bay) → placed (present b) (empty (b .state)) (b .«devstschg_en») ≡ true
+    (c : Control) (b : Bay) → placed (present b) (empty (b .state)) (b .control .«devstschg_en») ≡ true
     → placed (present b) (empty (stateWritten c (present b) b)) (c .«devstschg_en») ≡ true
 unfolding stateWritten
 placed-written c b h =
@@ -95,8 +95,8 @@ placed-written c b h =
     (λ a r p en m x u e.
     implies (placed p e en && implies u (not e) && implies a (not r))
     (placed p (cond (a && p) r (cond (m && not en && e && p) false (cond (x && u) false e))) m))
-    refl (asks c) (empty (c .request)) (present b) (b .«devstschg_en») (c .«devstschg_en»)
-    (c .«remreq_en» && not (b .«remreq_en») && b .«remreq_sts») (inUse b) (empty (b .state)))
+    refl (asks c) (empty (c .request)) (present b) (b .control .«devstschg_en») (c .«devstschg_en»)
+    (c .«remreq_en» && not (b .control .«remreq_en») && b .«remreq_sts») (inUse b) (empty (b .state)))
     (and-eq-true-iff _ _ .1 (and-eq-true-iff _ _ .1 (h, in-use-rules-out b), asked-rules-out c)))
 
 -- ---- powered
@@ -173,12 +173,12 @@ unfolding tickedBay movedBay present
 ticked-sound b s =
     let q = presentAfter (input b N1394) (input b NUSB) in
     let place =
-    meant q (tickedBay b .state) (b .«devstschg_en»)
+    meant q (tickedBay b .state) (b .control .«devstschg_en»)
     (placed-ticked b q (pressed (input b NREMREQ))
-    (test (present b) (b .state) (b .«devstschg_en») (record { held = s .held; waiting = s .waiting })))
+    (test (present b) (b .state) (b .control .«devstschg_en») (record { held = s .held; waiting = s .waiting })))
     in
     record {
-      powered = powered-ticked (b .«pwr_ctl») (b .«lock_ctl») (present b) q (s .powered);
+      powered = powered-ticked (b .control .«pwr_ctl») (b .control .«lock_ctl») (present b) q (s .powered);
       held = place .held;
       waiting = place .waiting;
       still =
@@ -195,7 +195,7 @@ unfolding controlledBay present
 controlled-sound c mode ticks b s =
     let place =
     meant (present b) (stateWritten c (present b) b) (c .«devstschg_en»)
-    (placed-written c b (test (present b) (b .state) (b .«devstschg_en») (record { held = s .held; waiting = s .waiting })))
+    (placed-written c b (test (present b) (b .state) (b .control .«devstschg_en») (record { held = s .held; waiting = s .waiting })))
     in
     record {
       powered = λ w. let both = and-eq-true-iff (c .«pwr_ctl» && c .«lock_ctl») (present b) .0 w in (and-eq-true-iff (c .«pwr_ctl») (c .«lock_ctl») .0 (both .0) .1, both .1);
@@ -206,24 +206,19 @@ controlled-sound c mode ticks b s =
 
 -- Fitness alone doesn't make a bay sound: this one is fit, and powered with nothing in it.
 poweredAndEmpty : Bay
-poweredAndEmpty =
-    record {
-      levels = true ∷ true ∷ true ∷ [];
-      accepted = true ∷ true ∷ true ∷ [];
-      counts = 0 ∷ 0 ∷ 0 ∷ [];
-      «n_sl» = true;
-      state = EMPTY;
-      «remreq_sts» = false;
-      devstschg = false;
-      «lock_ctl» = true;
-      request = 0;
-      «remreq_en» = false;
-      «devstschg_en» = false;
-      «remevtwak_en» = false;
-      «pwr_ctl» = true;
-      pulse = 0;
-    }
+poweredAndEmpty = withStatus EMPTY false false powered 0 emptyBay
+  where
+    powered : Control
+    powered =
+        record {
+          «lock_ctl» = true;
+          request = 0;
+          «remreq_en» = false;
+          «devstschg_en» = false;
+          «remevtwak_en» = false;
+          «pwr_ctl» = true;
+        }
 
 pub sound-is-more-than-fit : (b : Bay) × (bayFit b ≡ true) × (Sound b → ⊥)
-unfolding poweredAndEmpty bayFit present
+unfolding poweredAndEmpty emptyBay bayFit present
 sound-is-more-than-fit = (poweredAndEmpty, refl, λ s. false≢true (s .powered refl .1))

@@ -6,45 +6,33 @@ use mathlib.Core.List.{List, [], _∷_}
 use lib.Dec.{eqb}
 use lib.ListN.{length, getD}
 use native.Mathlib.Omega.{arith}
-use Rattle.bay.specs.Record.{N1394, NUSB, NREMREQ, TICKS, level, acceptedLevel, count, present, EMPTY, REMOVAL-ALLOWED}
+use Rattle.bay.specs.Record.{N1394, NUSB, NREMREQ, TICKS, level, acceptedLevel, count, present, EMPTY, REMOVAL-ALLOWED, withInputs, withStatus}
 use Rattle.bay.specs.Debounce.{debounce}
-use Rattle.bay.specs.Moves.{leaves, arrives, changes, pressed, stateAfter, movedBay, tickedBay}
+use Rattle.bay.specs.Moves.{leaves, arrives, changes, pressed, stateAfter, controlAfter, requestedAfter, changedAfter, movedBay, tickedBay}
 use Rattle.bay.specs.declared.Bay.{Bay}
+use Rattle.bay.specs.declared.Control.{Control}
 use Rattle.bay.specs.declared.Input.{Input}
 use Rattle.bay.proofs.Length.{counting}
 
--- A bay after its inputs, but for its state, DEVSTSCHG, stored request and PWR_CTL.
-abbrev pub after : Bay → Input → Input → Input → ℕ → Bool → ℕ → Bool → Bay
-after b n1394 nusb nremreq state chg request power =
-    record {
-      levels = b .levels;
-      accepted = n1394 .accepted ∷ nusb .accepted ∷ nremreq .accepted ∷ [];
-      counts = n1394 .count ∷ nusb .count ∷ nremreq .count ∷ [];
-      «n_sl» = b .«n_sl»;
-      state = state;
-      «remreq_sts» = b .«remreq_sts» || pressed nremreq;
-      devstschg = chg;
-      «lock_ctl» = b .«lock_ctl»;
-      request = request;
-      «remreq_en» = b .«remreq_en»;
-      «devstschg_en» = b .«devstschg_en»;
-      «remevtwak_en» = b .«remevtwak_en»;
-      «pwr_ctl» = power;
-      pulse = b .pulse - 1;
-    }
+-- A bay after its inputs, but for its state, DEVSTSCHG and BCER.
+abbrev pub after : Bay → Input → Input → Input → ℕ → Bool → Control → Bay
+after b n1394 nusb nremreq state chg control =
+    withStatus state (requestedAfter b (pressed nremreq)) chg control (b .pulse - 1)
+    (withInputs (b .levels) (n1394 .accepted ∷ nusb .accepted ∷ nremreq .accepted ∷ [])
+    (n1394 .count ∷ nusb .count ∷ nremreq .count ∷ []) (b .«n_sl») b)
 
 module _ (b : Bay) (n1394 nusb nremreq : Input) where
   pub left :
       leaves b n1394 nusb ≡ true
       → movedBay b n1394 nusb nremreq
-      ≡ after b n1394 nusb nremreq EMPTY (b .devstschg || changes n1394 nusb && not (eqb (b .state) REMOVAL-ALLOWED && not (b .«remevtwak_en»))) 0 false
+      ≡ after b n1394 nusb nremreq EMPTY (changedAfter b (changes n1394 nusb) (eqb (b .state) REMOVAL-ALLOWED && not (b .control .«remevtwak_en»))) (controlAfter true (b .control))
   unfolding movedBay stateAfter
   left e = rw (e, and-true, and-false)
 
   pub stayed :
       leaves b n1394 nusb ≡ false
       → movedBay b n1394 nusb nremreq
-      ≡ after b n1394 nusb nremreq (stateAfter b false (arrives b n1394 nusb) (pressed nremreq)) (b .devstschg || changes n1394 nusb) (b .request) (b .«pwr_ctl»)
+      ≡ after b n1394 nusb nremreq (stateAfter b false (arrives b n1394 nusb) (pressed nremreq)) (b .devstschg || changes n1394 nusb) (b .control)
   unfolding movedBay
   stayed e = rw (e, and-false) (simp and-true)
 
@@ -68,22 +56,7 @@ three d (x ∷ y ∷ z ∷ w ∷ xs) h = absurd (omega arith)
 pub steady :
     (b : Bay) → length (b .accepted) ≡ 3 → length (b .counts) ≡ 3 → (same b N1394 && same b NUSB && same b NREMREQ) ≡ true
     → tickedBay b
-    ≡ record {
-      levels = b .levels;
-      accepted = b .accepted;
-      counts = b .counts;
-      «n_sl» = b .«n_sl»;
-      state = b .state;
-      «remreq_sts» = b .«remreq_sts»;
-      devstschg = b .devstschg;
-      «lock_ctl» = b .«lock_ctl»;
-      request = b .request;
-      «remreq_en» = b .«remreq_en»;
-      «devstschg_en» = b .«devstschg_en»;
-      «remevtwak_en» = b .«remevtwak_en»;
-      «pwr_ctl» = b .«pwr_ctl»;
-      pulse = b .pulse - 1;
-    }
+    ≡ withStatus (b .state) (b .«remreq_sts») (b .devstschg) (b .control) (b .pulse - 1) b
 unfolding tickedBay present stateAfter
 steady b la lc e =
     let p = and-eq-true-iff (same b N1394 && same b NUSB) (same b NREMREQ) .0 e in

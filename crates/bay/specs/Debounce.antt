@@ -3,8 +3,8 @@ use Prim.Native.Nat.{ℕ, _+_}
 use mathlib.Core.Bool.{Bool, not, cond, _&&_, Bool·beq}
 use mathlib.Core.List.{[], _∷_}
 use lib.Dec.{leb}
-use Rattle.bay.specs.Bits.{bit}
-use Rattle.bay.specs.Record.{N1394, NUSB, NREMREQ, acceptedLevel, count}
+use Rattle.bits.specs.Bits.{bit}
+use Rattle.bay.specs.Record.{N1394, NUSB, NREMREQ, acceptedLevel, count, withInputs}
 use Rattle.bay.specs.declared.Bay.{Bay}
 use Rattle.bay.specs.declared.Input.{Input}
 
@@ -37,23 +37,9 @@ restart level accepted n = cond (Bool·beq level accepted) 0 n
 -- PINS stores levels (n1394, nUSB, nREMREQ, nSL).
 unfoldable pub sampledBay : ℕ → Bay → Bay
 sampledBay levels b =
-    record {
-      levels = bit 3 levels ∷ bit 2 levels ∷ bit 1 levels ∷ [];
-      accepted = b .accepted;
-      counts =
-          restart (bit 3 levels) (acceptedLevel b N1394) (count b N1394)
-          ∷ restart (bit 2 levels) (acceptedLevel b NUSB) (count b NUSB)
-          ∷ restart (bit 1 levels) (acceptedLevel b NREMREQ) (count b NREMREQ)
-          ∷ [];
-      «n_sl» = bit 0 levels;
-      state = b .state;
-      «remreq_sts» = b .«remreq_sts»;
-      devstschg = b .devstschg;
-      «lock_ctl» = b .«lock_ctl»;
-      request = b .request;
-      «remreq_en» = b .«remreq_en»;
-      «devstschg_en» = b .«devstschg_en»;
-      «remevtwak_en» = b .«remevtwak_en»;
-      «pwr_ctl» = b .«pwr_ctl»;
-      pulse = b .pulse;
-    }
+    withInputs (bit 3 levels ∷ bit 2 levels ∷ bit 1 levels ∷ []) (b .accepted)
+    (restart (bit 3 levels) (acceptedLevel b N1394) (count b N1394)
+    ∷ restart (bit 2 levels) (acceptedLevel b NUSB) (count b NUSB)
+    ∷ restart (bit 1 levels) (acceptedLevel b NREMREQ) (count b NREMREQ)
+    ∷ [])
+    (bit 0 levels) b

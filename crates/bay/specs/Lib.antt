@@ -1,4 +1,3 @@
-pub mod Bits
 pub mod Record
 pub mod Debounce
 pub mod Moves

@@ -18,9 +18,12 @@ use Rattle.bay.specs.Record.{
   ENABLED,
   REMOVAL-REQUESTED,
   REMOVAL-ALLOWED,
+  withInputs,
+  withStatus,
 }
 use Rattle.bay.specs.Debounce.{debounce}
 use Rattle.bay.specs.declared.Bay.{Bay}
+use Rattle.bay.specs.declared.Control.{Control}
 use Rattle.bay.specs.declared.Input.{Input}
 
 -- Input i after this TICK: its accepted level, its count, and whether a level was accepted.
@@ -47,7 +50,7 @@ pressed nremreq = nremreq .settled && not (nremreq .accepted)
 
 -- A bay in Removal Allowed becomes not present with REMEVTWAK_EN clear.
 abbrev pub quiet : Bay → Input → Input → Bool
-quiet b n1394 nusb = eqb (b .state) REMOVAL-ALLOWED && leaves b n1394 nusb && not (b .«remevtwak_en»)
+quiet b n1394 nusb = eqb (b .state) REMOVAL-ALLOWED && leaves b n1394 nusb && not (b .control .«remevtwak_en»)
 
 -- A state from which a press goes to Removal Requested.
 unfoldable pub inUse : Bay → Bool
@@ -58,31 +61,36 @@ inUse b = eqb (b .state) INSERTED || eqb (b .state) ENABLED
 unfoldable pub stateAfter : Bay → Bool → Bool → Bool → ℕ
 stateAfter b gone come press =
     cond gone EMPTY
-    (cond (come && b .«devstschg_en») INSERTED
-    (cond (press && b .«remreq_en» && not (b .«remreq_sts») && inUse b) REMOVAL-REQUESTED (b .state)))
+    (cond (come && b .control .«devstschg_en») INSERTED
+    (cond (press && b .control .«remreq_en» && not (b .«remreq_sts») && inUse b) REMOVAL-REQUESTED (b .state)))
 
+-- Present to not present: stored request 0, PWR_CTL 0.
+abbrev pub controlAfter : Bool → Control → Control
+controlAfter gone c =
+    record {
+      «lock_ctl» = c .«lock_ctl»;
+      request = cond gone 0 (c .request);
+      «remreq_en» = c .«remreq_en»;
+      «devstschg_en» = c .«devstschg_en»;
+      «remevtwak_en» = c .«remevtwak_en»;
+      «pwr_ctl» = c .«pwr_ctl» && not gone;
+    }
+
+-- An accepted press sets REMREQ_STS, in any state.
+abbrev pub requestedAfter : Bay → Bool → Bool
+requestedAfter b press = b .«remreq_sts» || press
+
+-- A change of either presence bit sets DEVSTSCHG, except when quiet.
+abbrev pub changedAfter : Bay → Bool → Bool → Bool
+changedAfter b change silent = b .devstschg || change && not silent
+
+-- A pulse above 0 falls by one.
 unfoldable pub movedBay : Bay → Input → Input → Input → Bay
 movedBay b n1394 nusb nremreq =
-    record {
-      levels = b .levels;
-      accepted = n1394 .accepted ∷ nusb .accepted ∷ nremreq .accepted ∷ [];
-      counts = n1394 .count ∷ nusb .count ∷ nremreq .count ∷ [];
-      «n_sl» = b .«n_sl»;
-      state = stateAfter b (leaves b n1394 nusb) (arrives b n1394 nusb) (pressed nremreq);
-      -- An accepted press sets REMREQ_STS, in any state.
-      «remreq_sts» = b .«remreq_sts» || pressed nremreq;
-      -- A change of either presence bit sets DEVSTSCHG, except when quiet.
-      devstschg = b .devstschg || changes n1394 nusb && not (quiet b n1394 nusb);
-      «lock_ctl» = b .«lock_ctl»;
-      -- Present to not present: stored request 0, PWR_CTL 0.
-      request = cond (leaves b n1394 nusb) 0 (b .request);
-      «remreq_en» = b .«remreq_en»;
-      «devstschg_en» = b .«devstschg_en»;
-      «remevtwak_en» = b .«remevtwak_en»;
-      «pwr_ctl» = b .«pwr_ctl» && not (leaves b n1394 nusb);
-      -- Then a pulse above 0 falls by one.
-      pulse = b .pulse - 1;
-    }
+    withStatus (stateAfter b (leaves b n1394 nusb) (arrives b n1394 nusb) (pressed nremreq)) (requestedAfter b (pressed nremreq))
+    (changedAfter b (changes n1394 nusb) (quiet b n1394 nusb)) (controlAfter (leaves b n1394 nusb) (b .control)) (b .pulse - 1)
+    (withInputs (b .levels) (n1394 .accepted ∷ nusb .accepted ∷ nremreq .accepted ∷ [])
+    (n1394 .count ∷ nusb .count ∷ nremreq .count ∷ []) (b .«n_sl») b)
 
 unfoldable pub tickedBay : Bay → Bay
 tickedBay b = movedBay b (input b N1394) (input b NUSB) (input b NREMREQ)

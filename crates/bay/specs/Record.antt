@@ -2,11 +2,12 @@
 -- "Registers" and "Bay moves").
 use Prim.Native.Nat.{ℕ}
 use mathlib.Core.Bool.{Bool, true, false, not, _&&_, _||_}
-use mathlib.Core.List.{[], _∷_}
+use mathlib.Core.List.{List, [], _∷_}
 use lib.Dec.{ltb, leb}
 use lib.ListN.{getD}
-use Rattle.bay.specs.Bits.{bit}
+use Rattle.bits.specs.Bits.{bit}
 use Rattle.bay.specs.declared.Bay.{Bay}
+use Rattle.bay.specs.declared.Control.{Control}
 
 -- The debounced inputs.
 abbrev pub N1394 : ℕ
@@ -55,25 +56,82 @@ REMOVAL-ALLOWED = 4
 abbrev pub TICKS : ℕ
 TICKS = 10
 
--- A bay that has just been given these levels, accepted at once, with nothing stored.
-abbrev fromLevels : Bool → Bool → Bool → Bool → Bool → Bool → Bay
-fromLevels n1394 nusb nremreq nsl chg lock =
+-- The longest pulse, 200 ticks.
+abbrev pub MOST-PULSE : ℕ
+MOST-PULSE = 200
+
+-- ---- a bay in two halves, each changed without the other: what it senses, and how it stands
+
+abbrev pub withInputs : List Bool → List Bool → List ℕ → Bool → Bay → Bay
+withInputs levels accepted counts nsl b =
     record {
-      levels = n1394 ∷ nusb ∷ nremreq ∷ [];
-      accepted = n1394 ∷ nusb ∷ nremreq ∷ [];
-      counts = 0 ∷ 0 ∷ 0 ∷ [];
+      levels = levels;
+      accepted = accepted;
+      counts = counts;
       «n_sl» = nsl;
-      state = EMPTY;
-      «remreq_sts» = false;
+      state = b .state;
+      «remreq_sts» = b .«remreq_sts»;
+      devstschg = b .devstschg;
+      control = b .control;
+      pulse = b .pulse;
+    }
+
+abbrev pub withStatus : ℕ → Bool → Bool → Control → ℕ → Bay → Bay
+withStatus state req chg control pulse b =
+    record {
+      levels = b .levels;
+      accepted = b .accepted;
+      counts = b .counts;
+      «n_sl» = b .«n_sl»;
+      state = state;
+      «remreq_sts» = req;
       devstschg = chg;
+      control = control;
+      pulse = pulse;
+    }
+
+-- ---- the bays that a closing and a RESET make
+
+-- BCER with nothing set but LOCK_CTL.
+abbrev pub lockedControl : Bool → Control
+lockedControl lock =
+    record {
       «lock_ctl» = lock;
       request = 0;
       «remreq_en» = false;
       «devstschg_en» = false;
       «remevtwak_en» = false;
       «pwr_ctl» = false;
+    }
+
+-- What stands in for a bay that a list doesn't have: the code's array always has two.
+abbrev pub noBay : Bay
+noBay =
+    record {
+      levels = [];
+      accepted = [];
+      counts = [];
+      «n_sl» = false;
+      state = 0;
+      «remreq_sts» = false;
+      devstschg = false;
+      control =
+          record {
+            «lock_ctl» = false;
+            request = 0;
+            «remreq_en» = false;
+            «devstschg_en» = false;
+            «remevtwak_en» = false;
+            «pwr_ctl» = false;
+          };
       pulse = 0;
     }
+
+-- A bay that has just been given these levels, accepted at once, with nothing stored.
+abbrev fromLevels : Bool → Bool → Bool → Bool → Bool → Bool → Bay
+fromLevels n1394 nusb nremreq nsl chg lock =
+    withStatus EMPTY false chg (lockedControl lock) 0
+    (withInputs (n1394 ∷ nusb ∷ nremreq ∷ []) (n1394 ∷ nusb ∷ nremreq ∷ []) (0 ∷ 0 ∷ 0 ∷ []) nsl noBay)
 
 -- Levels 1, the rest 0.
 unfoldable pub emptyBay : Bay
@@ -87,4 +145,4 @@ resetBay levels lock = fromLevels (bit 3 levels) (bit 2 levels) (bit 1 levels) (
 unfoldable pub bayFit : Bay → Bool
 bayFit b =
     ltb (count b N1394) TICKS && ltb (count b NUSB) TICKS && ltb (count b NREMREQ) TICKS && leb (b .state) REMOVAL-ALLOWED
-    && leb (b .request) REMOVAL-ALLOWED && leb (b .pulse) 200
+    && leb (b .control .request) REMOVAL-ALLOWED && leb (b .pulse) MOST-PULSE

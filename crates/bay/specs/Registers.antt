@@ -2,8 +2,8 @@
 use Prim.Native.Nat.{ℕ, _+_, _*_, _/_, _%_}
 use mathlib.Core.Bool.{Bool, not, cond, _&&_}
 use lib.Dec.{eqb, ltb, leb}
-use Rattle.bay.specs.Bits.{bit, put}
-use Rattle.bay.specs.Record.{N1394, NUSB, acceptedLevel, present, EMPTY, INSERTED, REMOVAL-REQUESTED, REMOVAL-ALLOWED}
+use Rattle.bits.specs.Bits.{bit, put}
+use Rattle.bay.specs.Record.{N1394, NUSB, acceptedLevel, present, EMPTY, INSERTED, REMOVAL-REQUESTED, REMOVAL-ALLOWED, withStatus}
 use Rattle.bay.specs.Moves.{inUse}
 use Rattle.bay.specs.declared.Bay.{Bay}
 use Rattle.bay.specs.declared.Control.{Control}
@@ -17,28 +17,12 @@ bstrOf b =
 -- BCER: 7 LOCK_CTL, 6-4 stored request, 3 REMREQ_EN, 2 DEVSTSCHG_EN, 1 REMEVTWAK_EN, 0 PWR_CTL.
 unfoldable pub bcerOf : Bay → ℕ
 bcerOf b =
-    put 7 (b .«lock_ctl») + b .request % 8 * 16 + put 3 (b .«remreq_en») + put 2 (b .«devstschg_en»)
-    + put 1 (b .«remevtwak_en») + put 0 (b .«pwr_ctl»)
+    put 7 (b .control .«lock_ctl») + b .control .request % 8 * 16 + put 3 (b .control .«remreq_en») + put 2 (b .control .«devstschg_en»)
+    + put 1 (b .control .«remevtwak_en») + put 0 (b .control .«pwr_ctl»)
 
 -- BSTR: writing 1 to bit 3 or 2 clears it; other bits are ignored.
 unfoldable pub bstrWritten : ℕ → Bay → Bay
-bstrWritten v b =
-    record {
-      levels = b .levels;
-      accepted = b .accepted;
-      counts = b .counts;
-      «n_sl» = b .«n_sl»;
-      state = b .state;
-      «remreq_sts» = b .«remreq_sts» && not (bit 3 v);
-      devstschg = b .devstschg && not (bit 2 v);
-      «lock_ctl» = b .«lock_ctl»;
-      request = b .request;
-      «remreq_en» = b .«remreq_en»;
-      «devstschg_en» = b .«devstschg_en»;
-      «remevtwak_en» = b .«remevtwak_en»;
-      «pwr_ctl» = b .«pwr_ctl»;
-      pulse = b .pulse;
-    }
+bstrWritten v b = withStatus (b .state) (b .«remreq_sts» && not (bit 3 v)) (b .devstschg && not (bit 2 v)) (b .control) (b .pulse) b
 
 -- A byte written to BCER, by its fields.
 unfoldable pub controlOf : ℕ → Control
@@ -56,38 +40,35 @@ controlOf v =
 unfoldable pub asks : Control → Bool
 asks c = ltb EMPTY (c .request) && leb (c .request) REMOVAL-ALLOWED
 
-unfoldable pub requestWritten : Control → Bay → ℕ
-requestWritten c b = cond (asks c) (c .request) (b .request)
+unfoldable pub requestWritten : Control → Control → ℕ
+requestWritten c old = cond (asks c) (c .request) (old .request)
+
+-- BCER after a write: PWR_CTL is 1 exactly if it was written 1 with LOCK_CTL written 1 and a device present, and else 0.
+abbrev pub controlWritten : Control → Bool → Control → Control
+controlWritten c device old =
+    record {
+      «lock_ctl» = c .«lock_ctl»;
+      request = requestWritten c old;
+      «remreq_en» = c .«remreq_en»;
+      «devstschg_en» = c .«devstschg_en»;
+      «remevtwak_en» = c .«remevtwak_en»;
+      «pwr_ctl» = c .«pwr_ctl» && c .«lock_ctl» && device;
+    }
 
 -- A write makes at most one move, the first that applies: request 1-4 with a device present, to that state; DEVSTSCHG_EN from 0
 -- to 1 in Empty with a device, to Inserted; REMREQ_EN from 0 to 1 with REMREQ_STS set in Inserted or Enabled, to Removal Requested.
 unfoldable pub stateWritten : Control → Bool → Bay → ℕ
 stateWritten c device b =
     cond (asks c && device) (c .request)
-    (cond (c .«devstschg_en» && not (b .«devstschg_en») && eqb (b .state) EMPTY && device) INSERTED
-    (cond (c .«remreq_en» && not (b .«remreq_en») && b .«remreq_sts» && inUse b) REMOVAL-REQUESTED (b .state)))
+    (cond (c .«devstschg_en» && not (b .control .«devstschg_en») && eqb (b .state) EMPTY && device) INSERTED
+    (cond (c .«remreq_en» && not (b .control .«remreq_en») && b .«remreq_sts» && inUse b) REMOVAL-REQUESTED (b .state)))
 
 -- In LOCK_MODE 1 only, LOCK_CTL written from 1 to 0 starts a pulse with LETR's ticks, and another restarts it.
 unfoldable pub pulseWritten : Control → Bool → ℕ → Bay → ℕ
-pulseWritten c mode ticks b = cond (mode && b .«lock_ctl» && not (c .«lock_ctl»)) ticks (b .pulse)
+pulseWritten c mode ticks b = cond (mode && b .control .«lock_ctl» && not (c .«lock_ctl»)) ticks (b .pulse)
 
--- A write of BCER's fields, in a LOCK_MODE and with LETR's ticks. After it PWR_CTL is 1 exactly if it was written 1 with LOCK_CTL
--- written 1 and a device present.
+-- A write of BCER's fields, in a LOCK_MODE and with LETR's ticks.
 unfoldable pub controlledBay : Control → Bool → ℕ → Bay → Bay
 controlledBay c mode ticks b =
-    record {
-      levels = b .levels;
-      accepted = b .accepted;
-      counts = b .counts;
-      «n_sl» = b .«n_sl»;
-      state = stateWritten c (present b) b;
-      «remreq_sts» = b .«remreq_sts»;
-      devstschg = b .devstschg;
-      «lock_ctl» = c .«lock_ctl»;
-      request = requestWritten c b;
-      «remreq_en» = c .«remreq_en»;
-      «devstschg_en» = c .«devstschg_en»;
-      «remevtwak_en» = c .«remevtwak_en»;
-      «pwr_ctl» = c .«pwr_ctl» && c .«lock_ctl» && present b;
-      pulse = pulseWritten c mode ticks b;
-    }
+    withStatus (stateWritten c (present b) b) (b .«remreq_sts») (b .devstschg) (controlWritten c (present b) (b .control))
+    (pulseWritten c mode ticks b) b

@@ -9,10 +9,10 @@ use Rattle.bay.specs.declared.Bay.{Bay}
 
 pub record Sound (b : Bay) : Type 0 where
   -- Power is on only with the lock and a device.
-  pub powered : b .«pwr_ctl» ≡ true → (b .«lock_ctl» ≡ true) × (present b ≡ true)
+  pub powered : b .control .«pwr_ctl» ≡ true → (b .control .«lock_ctl» ≡ true) × (present b ≡ true)
   -- A bay that isn't Empty holds a device.
   pub held : b .state ≢ EMPTY → present b ≡ true
   -- A device waits in Empty only while DEVSTSCHG_EN is clear.
-  pub waiting : present b ≡ true → b .state ≡ EMPTY → b .«devstschg_en» ≡ false
+  pub waiting : present b ≡ true → b .state ≡ EMPTY → b .control .«devstschg_en» ≡ false
   -- The count of an input is 0 where its level is the accepted one.
   pub still : (i : ℕ) → level b i ≡ acceptedLevel b i → count b i ≡ 0

@@ -4,7 +4,7 @@ ghost use Prim.Native.Nat.{_<_};
 ghost use Rattle.bay.specs.Debounce.{debounce, restart, sampledBay};
 use crate::Bay;
 use crate::Input;
-use crate::bits::has;
+use bits::has;
 
 // A TICK: a count whose level differs rises by one; at `length` the level is accepted and the count is 0.
 pub(crate) fn debounced(length: u8, level: bool, accepted: bool, count: u8) -> Input

@@ -1,6 +1,5 @@
 // One bay of a dock (document 01, "Bay moves", and what "Registers" says of a bay): its record and constants,
 // debounce, moves, its two registers and its outputs. It knows nothing of the bus, nor of the other bay.
-mod bits;
 mod debounce;
 mod moves;
 mod outputs;
@@ -20,13 +19,8 @@ pub struct Bay {
     pub state: u8,
     pub remreq_sts: bool,
     pub devstschg: bool,
-    pub lock_ctl: bool,
-    // The driver's stored request.
-    pub request: u8,
-    pub remreq_en: bool,
-    pub devstschg_en: bool,
-    pub remevtwak_en: bool,
-    pub pwr_ctl: bool,
+    // BCER.
+    pub control: Control,
     // For how many ticks more the lock pin is held low.
     pub pulse: u8,
 }
@@ -56,10 +50,10 @@ impl Bay {
     pub const REMOVAL_ALLOWED: u8 = 4;
 }
 
-// What a driver asks of a bay in one write.
+// BCER's six fields: of a bay, or as a driver writes them.
 pub struct Control {
     pub lock_ctl: bool,
-    // 0-7; 1-4 are bay states.
+    // Stored, 0-4, where 1-4 are bay states; written, 0-7.
     pub request: u8,
     pub remreq_en: bool,
     pub devstschg_en: bool,

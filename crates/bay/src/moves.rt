@@ -1,10 +1,11 @@
 // What a TICK makes of a bay (document 01, "Bay moves"): at most one move, presence first.
 ghost use mathlib.Core.Path.{_≡_};
-ghost use mathlib.Core.Bool.{false};
+ghost use mathlib.Core.Bool.{true, false};
 ghost use Prim.Native.Nat.{_-_};
 ghost use Rattle.bay.specs.Record.{present as Record·present};
-ghost use Rattle.bay.specs.Moves.{tickedBay, movedBay, stateAfter, inUse};
+ghost use Rattle.bay.specs.Moves.{tickedBay, movedBay, stateAfter, controlAfter, inUse};
 use crate::Bay;
+use crate::Control;
 use crate::Input;
 use crate::debounce::debounced;
 
@@ -28,10 +29,10 @@ impl Bay {
     fn state_after(self, arrives: bool, pressed: bool) -> u8
         ensures { λ r. ⌜ r ≡ stateAfter self false arrives pressed ⌝ }
     {
-        if arrives & self.devstschg_en {
+        if arrives & self.control.devstschg_en {
             return Bay::INSERTED;
         }
-        if pressed & self.remreq_en & !self.remreq_sts & self.in_use() {
+        if pressed & self.control.remreq_en & !self.remreq_sts & self.in_use() {
             return Bay::REMOVAL_REQUESTED;
         }
         self.state
@@ -49,12 +50,11 @@ impl Bay {
         self.counts = [n1394.count, nusb.count, nremreq.count];
         self.pulse = fallen(self.pulse);
         if before & !after {
-            let quiet = (self.state == Bay::REMOVAL_ALLOWED) & !self.remevtwak_en;
+            let quiet = (self.state == Bay::REMOVAL_ALLOWED) & !self.control.remevtwak_en;
             self.state = Bay::EMPTY;
             self.remreq_sts = self.remreq_sts | pressed;
             self.devstschg = self.devstschg | (changed & !quiet);
-            self.request = 0;
-            self.pwr_ctl = false;
+            self.control = self.control.released();
             return self;
         }
         let state = self.state_after(!before & after, pressed);
@@ -97,6 +97,17 @@ impl Bay {
             counts[Bay::NREMREQ],
         );
         self.moved(n1394, nusb, nremreq)
+    }
+}
+
+impl Control {
+    // The device has left: stored request 0, PWR_CTL 0.
+    fn released(mut self) -> Control
+        ensures { λ r. ⌜ r ≡ controlAfter true self ⌝ }
+    {
+        self.request = 0;
+        self.pwr_ctl = false;
+        self
     }
 }
 

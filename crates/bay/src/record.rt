@@ -1,8 +1,25 @@
 // The records that a closing and a RESET make, and whether a record is fit.
 ghost use mathlib.Core.Path.{_≡_};
-ghost use Rattle.bay.specs.Record.{emptyBay, resetBay, bayFit};
+ghost use Rattle.bay.specs.Record.{lockedControl, emptyBay, resetBay, bayFit};
 use crate::Bay;
-use crate::bits::has;
+use crate::Control;
+use bits::has;
+
+impl Control {
+    // All 0 but LOCK_CTL.
+    fn locked(lock_ctl: bool) -> Control
+        ensures { λ r. ⌜ r ≡ lockedControl «lock_ctl» ⌝ }
+    {
+        Control {
+            lock_ctl,
+            request: 0,
+            remreq_en: false,
+            devstschg_en: false,
+            remevtwak_en: false,
+            pwr_ctl: false,
+        }
+    }
+}
 
 impl Bay {
     // Levels 1, the rest 0.
@@ -17,12 +34,7 @@ impl Bay {
             state: Bay::EMPTY,
             remreq_sts: false,
             devstschg: false,
-            lock_ctl: false,
-            request: 0,
-            remreq_en: false,
-            devstschg_en: false,
-            remevtwak_en: false,
-            pwr_ctl: false,
+            control: Control::locked(false),
             pulse: 0,
         }
     }
@@ -42,12 +54,7 @@ impl Bay {
             state: Bay::EMPTY,
             remreq_sts: false,
             devstschg: !n1394 | !nusb,
-            lock_ctl,
-            request: 0,
-            remreq_en: false,
-            devstschg_en: false,
-            remevtwak_en: false,
-            pwr_ctl: false,
+            control: Control::locked(lock_ctl),
             pulse: 0,
         }
     }
@@ -61,7 +68,7 @@ impl Bay {
             & (counts[Bay::NUSB] < Bay::TICKS)
             & (counts[Bay::NREMREQ] < Bay::TICKS)
             & (self.state <= Bay::REMOVAL_ALLOWED)
-            & (self.request <= Bay::REMOVAL_ALLOWED)
+            & (self.control.request <= Bay::REMOVAL_ALLOWED)
             & (self.pulse <= Bay::MOST_PULSE)
     }
 }

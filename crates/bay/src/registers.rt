@@ -1,10 +1,10 @@
 // A bay's two registers (document 01, "Registers"): BSTR and BCER as they read, and what a write does.
 ghost use mathlib.Core.Path.{_≡_};
-ghost use Rattle.bay.specs.Registers.{bstrOf, bcerOf, bstrWritten, controlOf, asks, stateWritten, requestWritten, pulseWritten, controlledBay};
+ghost use Rattle.bay.specs.Registers.{bstrOf, bcerOf, bstrWritten, controlOf, asks, stateWritten, requestWritten, controlWritten, pulseWritten, controlledBay};
 use crate::Bay;
 use crate::Control;
-use crate::bits::has;
-use crate::bits::put;
+use bits::has;
+use bits::put;
 
 impl Bay {
     // BSTR as it reads.
@@ -24,12 +24,12 @@ impl Bay {
     pub fn bcer(self) -> u8
         ensures { λ r. ⌜ r ≡ bcerOf self ⌝ }
     {
-        put(self.lock_ctl, 128)
-            + self.request % 8 * 16
-            + put(self.remreq_en, 8)
-            + put(self.devstschg_en, 4)
-            + put(self.remevtwak_en, 2)
-            + put(self.pwr_ctl, 1)
+        put(self.control.lock_ctl, 128)
+            + self.control.request % 8 * 16
+            + put(self.control.remreq_en, 8)
+            + put(self.control.devstschg_en, 4)
+            + put(self.control.remevtwak_en, 2)
+            + put(self.control.pwr_ctl, 1)
     }
 
     // A write to BSTR: 1 clears REMREQ_STS or DEVSTSCHG.
@@ -48,26 +48,20 @@ impl Bay {
         if c.asks() & present {
             return c.request;
         }
-        if c.devstschg_en & !self.devstschg_en & (self.state == Bay::EMPTY) & present {
+        if c.devstschg_en & !self.control.devstschg_en & (self.state == Bay::EMPTY) & present {
             return Bay::INSERTED;
         }
-        if c.remreq_en & !self.remreq_en & self.remreq_sts & self.in_use() {
+        if c.remreq_en & !self.control.remreq_en & self.remreq_sts & self.in_use() {
             return Bay::REMOVAL_REQUESTED;
         }
         self.state
-    }
-
-    fn request_written(self, c: Control) -> u8
-        ensures { λ r. ⌜ r ≡ requestWritten c self ⌝ }
-    {
-        if c.asks() { c.request } else { self.request }
     }
 
     // In LOCK_MODE 1, LOCK_CTL from 1 to 0 starts a pulse of `ticks`.
     fn pulse_written(self, c: Control, lock_mode: bool, ticks: u8) -> u8
         ensures { λ r. ⌜ r ≡ pulseWritten c «lock_mode» ticks self ⌝ }
     {
-        if lock_mode & self.lock_ctl & !c.lock_ctl {
+        if lock_mode & self.control.lock_ctl & !c.lock_ctl {
             ticks
         } else {
             self.pulse
@@ -80,15 +74,10 @@ impl Bay {
     {
         let present = self.present();
         let state = self.state_written(c, present);
-        let request = self.request_written(c);
+        let control = self.control.written(c, present);
         let pulse = self.pulse_written(c, lock_mode, ticks);
         self.state = state;
-        self.lock_ctl = c.lock_ctl;
-        self.request = request;
-        self.remreq_en = c.remreq_en;
-        self.devstschg_en = c.devstschg_en;
-        self.remevtwak_en = c.remevtwak_en;
-        self.pwr_ctl = c.pwr_ctl & c.lock_ctl & present;
+        self.control = control;
         self.pulse = pulse;
         self
     }
@@ -114,5 +103,26 @@ impl Control {
         ensures { λ r. ⌜ r ≡ asks self ⌝ }
     {
         (Bay::EMPTY < self.request) & (self.request <= Bay::REMOVAL_ALLOWED)
+    }
+
+    // The stored request after a write.
+    fn request_written(self, c: Control) -> u8
+        ensures { λ r. ⌜ r ≡ requestWritten c self ⌝ }
+    {
+        if c.asks() { c.request } else { self.request }
+    }
+
+    // BCER after a write: power only with the lock and a device.
+    fn written(self, c: Control, present: bool) -> Control
+        ensures { λ r. ⌜ r ≡ controlWritten c present self ⌝ }
+    {
+        Control {
+            lock_ctl: c.lock_ctl,
+            request: self.request_written(c),
+            remreq_en: c.remreq_en,
+            devstschg_en: c.devstschg_en,
+            remevtwak_en: c.remevtwak_en,
+            pwr_ctl: c.pwr_ctl & c.lock_ctl & present,
+        }
     }
 }

@@ -1,18 +1,19 @@
 -- A bus command in progress (document 01, "Bus commands"; document 001, Tables 3 and 4).
-use Prim.Native.Nat.{ℕ, _+_, _*_, _/_, _%_}
+use Prim.Native.Nat.{ℕ, _+_, _*_}
 use mathlib.Core.Bool.{cond}
 use lib.Dec.{eqb}
+use Rattle.bits.specs.Straps.{smbA}
 use Rattle.bus.specs.declared.Progress.{Progress}
 use Rattle.bus.specs.declared.Progress.the-variants.{Idle, Opened, Addressed, Register, Data, Again, Reading}
 use Rattle.bus.specs.declared.Heard.{Heard}
 use Rattle.bus.specs.declared.Heard.the-variants.{On, Read, End}
 
--- The own address byte is 90h + 2 x SMB_A for writing, one more for reading. SMB_A is bits 3-2 of the straps.
+-- The own address byte is 90h + 2 x SMB_A for writing, one more for reading.
 unfoldable pub ownWrite : ℕ → ℕ
-ownWrite straps = 0x90 + straps / 4 % 4 * 2
+ownWrite straps = 0x90 + smbA straps * 2
 
 unfoldable pub ownRead : ℕ → ℕ
-ownRead straps = 0x91 + straps / 4 % 4 * 2
+ownRead straps = ownWrite straps + 1
 
 -- A START opens a command when none is open. In an open one it is the next event of a form only after the register byte; else it
 -- ends the command, is spent with it and opens nothing.

@@ -3,6 +3,7 @@
 ghost use mathlib.Core.Path.{_≡_};
 ghost use Rattle.bus.specs.Progress.{ownWrite, ownRead, started, heard};
 ghost use Rattle.bus.specs.Reply.{replyNumber, replyByte};
+use bits::straps;
 
 // How far the open command has come. A write is START, own write byte, register byte, data byte, STOP; a read is
 // START, own write byte, register byte, START, own read byte, TAKE.
@@ -44,18 +45,18 @@ pub enum Reply {
     NotDriven,
 }
 
-// The own address byte for writing: 90h + 2 x SMB_A, which is bits 3-2 of the straps.
+// The own address byte for writing: 90h + 2 x SMB_A.
 pub fn own_write(straps: u8) -> u8
     ensures { λ r. ⌜ r ≡ ownWrite straps ⌝ }
 {
-    0x90 + straps / 4 % 4 * 2
+    0x90 + straps::smb_a(straps) * 2
 }
 
 // One more for reading.
 pub fn own_read(straps: u8) -> u8
     ensures { λ r. ⌜ r ≡ ownRead straps ⌝ }
 {
-    0x91 + straps / 4 % 4 * 2
+    own_write(straps) + 1
 }
 
 impl Progress {

@@ -6,7 +6,9 @@ use mathlib.Core.Path.{_≡_, refl, ap, sym, _∙_}
 use mathlib.Core.Bool.{Bool, true, false}
 use lib.Dec.{ltb, eqb}
 use borrow.Author.Tests.{lt-ltb, le-ltb, ltb-true, ltb-false, eqb-true, eqb-false}
-use Rattle.event.specs.Words.{kindOf, fieldOf, bitsOf, eventOf, accept, unpacked, bit, wordOf, strapsOf, packed, wordUnless, Bytes}
+use Rattle.bits.specs.Bits.{put}
+use Rattle.bits.specs.Straps.{MOST-STRAPS}
+use Rattle.event.specs.Words.{kindOf, fieldOf, bitsOf, eventOf, accept, unpacked, wordOf, strapsOf, packed, wordUnless, Bytes}
 use Rattle.event.specs.declared.Event.{Event}
 use Rattle.event.specs.declared.Event.the-variants.{Start, Stop, Byte, Take, Pins, Tick, Reset, Timeout}
 use Rattle.event.specs.declared.Unpacked.the-variants.{Accepted, StrayBit}
@@ -23,10 +25,10 @@ word-is-none p = let z : _≡_ {A = ℕ} 0 1 = cc in omega arith
 
 -- ---- from a word to its event and back
 
-bit-back : (d : ℕ) → d < 2 → bit (eqb d 1) ≡ d
+bit-back : (d : ℕ) → d < 2 → put 0 (eqb d 1) ≡ d
 bit-back d h = go (eqb d 1) refl
   where
-    go : (b : Bool) → eqb d 1 ≡ b → bit b ≡ d
+    go : (b : Bool) → eqb d 1 ≡ b → put 0 b ≡ d
     go true e = sym (eqb-true d 1 e)
     go false e = omega (arith, eqb-false d 1 e)
 
@@ -35,7 +37,7 @@ unfolding packed wordOf strapsOf
 packs-back d =
     by-kind (λ k. k < 8 → d < 2 ^ bitsOf k → packed (eventOf k d) ≡ Word (k * 8192 + d))
     (λ h l. ap Word (omega arith)) (λ h l. ap Word (omega arith)) (λ h l. refl) (λ h l. ap (λ n. Word (3 * 8192 + n)) (bit-back d l))
-    (λ h l. refl) (λ h l. ap Word (omega arith)) (λ h l. rw (le-ltb 15 (d / 256) (omega arith)) (ap Word (omega arith)))
+    (λ h l. refl) (λ h l. ap Word (omega arith)) (λ h l. rw (le-ltb MOST-STRAPS (d / 256) (omega arith)) (ap Word (omega arith)))
     (λ h l. ap Word (omega arith)) (λ n h l. absurd (omega arith))
 
 pub word-back : (w : ℕ) → w < 2 ^ 16 → (e : Event) → unpacked w ≡ Accepted e → packed e ≡ Word w
@@ -57,7 +59,7 @@ unpacks-back k d l h =
     let field : fieldOf (k * 8192 + d) ≡ d = omega arith in
     rw (kind, field, lt-ltb d (2 ^ bitsOf k) h)
 
-take-back : (b : Bool) → unpacked (3 * 8192 + bit b) ≡ Accepted (Take b)
+take-back : (b : Bool) → unpacked (3 * 8192 + put 0 b) ≡ Accepted (Take b)
 take-back true = unpacks-back 3 1 (omega arith) (omega arith)
 take-back false = unpacks-back 3 0 (omega arith) (omega arith)
 
@@ -80,8 +82,8 @@ accepted-back Timeout t s = unpacks-back 7 0 (omega arith) (omega arith)
 
 pub event-back : (e : Event) → Bytes e → (w : ℕ) → packed e ≡ Word w → unpacked w ≡ Accepted e
 unfolding packed
-event-back e t w p = go (ltb 15 (strapsOf e)) refl p
+event-back e t w p = go (ltb MOST-STRAPS (strapsOf e)) refl p
   where
-    go : (b : Bool) → ltb 15 (strapsOf e) ≡ b → wordUnless b (wordOf e) ≡ Word w → unpacked w ≡ Accepted e
+    go : (b : Bool) → ltb MOST-STRAPS (strapsOf e) ≡ b → wordUnless b (wordOf e) ≡ Word w → unpacked w ≡ Accepted e
     go true s q = absurd (word-is-none (sym q))
-    go false s q = let same : wordOf e ≡ w = cc in rw (← same) (accepted-back e t (omega (arith, ltb-false 15 (strapsOf e) s)))
+    go false s q = let same : wordOf e ≡ w = cc in rw (← same) (accepted-back e t (omega (arith, ltb-false MOST-STRAPS (strapsOf e) s)))

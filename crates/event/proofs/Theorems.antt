@@ -8,6 +8,7 @@ use mathlib.Core.Logic.{_↔_}
 use mathlib.Core.Bool.{Bool, true, false}
 use lib.Dec.{ltb}
 use borrow.Author.Tests.{ltb-true, ltb-false}
+use Rattle.bits.specs.Straps.{MOST-STRAPS}
 use Rattle.event.specs.Words.{kindOf, fieldOf, bitsOf, eventOf, accept, unpacked, StrayBitSet, wordOf, strapsOf, wordUnless, packed, Bytes}
 use Rattle.event.specs.declared.Event.{Event}
 use Rattle.event.specs.declared.Unpacked.{Unpacked}
@@ -42,11 +43,11 @@ words-refused w = go (ltb (fieldOf w) (2 ^ bitsOf (kindOf w))) refl
 -- An event is refused exactly when its straps exceed 15.
 pub events-refused : (e : Event) → (packed e ≡ StrapsTooLarge) ↔ (15 < strapsOf e)
 unfolding packed
-events-refused e = go (ltb 15 (strapsOf e)) refl
+events-refused e = go (ltb MOST-STRAPS (strapsOf e)) refl
   where
-    go : (b : Bool) → ltb 15 (strapsOf e) ≡ b → (wordUnless b (wordOf e) ≡ StrapsTooLarge) ↔ (15 < strapsOf e)
+    go : (b : Bool) → ltb MOST-STRAPS (strapsOf e) ≡ b → (wordUnless b (wordOf e) ≡ StrapsTooLarge) ↔ (15 < strapsOf e)
     go true t = (λ p. ltb-true _ _ t, λ h. refl)
-    go false t = (λ p. absurd (word-is-none p), λ h. absurd (omega (arith, ltb-false 15 (strapsOf e) t)))
+    go false t = (λ p. absurd (word-is-none p), λ h. absurd (omega (arith, ltb-false MOST-STRAPS (strapsOf e) t)))
 
 -- The contract of each call, as the checker reads it, determines the call's answer.
 pub unpack-determined : (w : ℕ) (r s : Unpacked) → unpack-reads.Post tt (w, tt) r (w, tt) → unpack-reads.Post tt (w, tt) s (w, tt) → r ≡ s

@@ -5,6 +5,8 @@ use mathlib.Core.List.{List, [], _∷_}
 use mathlib.Core.Bool.{Bool, true, false}
 use lib.ListN.{getD}
 use lib.Dec.{ltb, eqb}
+use Rattle.bits.specs.Bits.{put}
+use Rattle.bits.specs.Straps.{MOST-STRAPS}
 use Rattle.event.specs.declared.Event.{Event}
 use Rattle.event.specs.declared.Event.the-variants.{Start, Stop, Byte, Take, Pins, Tick, Reset, Timeout}
 use Rattle.event.specs.declared.Unpacked.{Unpacked}
@@ -45,13 +47,16 @@ bitsOf k = rowOf k .bits
 abbrev pub eventOf : ℕ → ℕ → Event
 eventOf k d = rowOf k .event d
 
--- Bits 15-13 of a word are the kind.
+-- Bits 15-13 of a word are the kind: one more of it counts so much.
+abbrev pub KIND : ℕ
+KIND = 8192
+
 abbrev pub kindOf : ℕ → ℕ
-kindOf w = w / 8192
+kindOf w = w / KIND
 
 -- The bits below the kind.
 abbrev pub fieldOf : ℕ → ℕ
-fieldOf w = w % 8192
+fieldOf w = w % KIND
 
 abbrev pub accept : Bool → Event → Unpacked
 accept true e = Accepted e
@@ -61,19 +66,15 @@ accept false e = StrayBit
 unfoldable pub unpacked : ℕ → Unpacked
 unpacked w = accept (ltb (fieldOf w) (2 ^ bitsOf (kindOf w))) (eventOf (kindOf w) (fieldOf w))
 
-abbrev pub bit : Bool → ℕ
-bit true = 1
-bit false = 0
-
 abbrev word : ℕ → ℕ → ℕ
-word k d = k * 8192 + d
+word k d = k * KIND + d
 
 -- The word of an event, most significant field first.
 unfoldable pub wordOf : Event → ℕ
 wordOf Start = word 0 0
 wordOf Stop = word 1 0
 wordOf (Byte b) = word 2 b
-wordOf (Take ack) = word 3 (bit ack)
+wordOf (Take ack) = word 3 (put 0 ack)
 wordOf (Pins p) = word 4 p
 wordOf Tick = word 5 0
 wordOf (Reset s l) = word 6 (s * 256 + l)
@@ -96,7 +97,7 @@ wordUnless false w = Word w
 
 -- Packing an event whose straps exceed 15 is refused.
 unfoldable pub packed : Event → Packed
-packed e = wordUnless (ltb 15 (strapsOf e)) (wordOf e)
+packed e = wordUnless (ltb MOST-STRAPS (strapsOf e)) (wordOf e)
 
 -- The paper's number for each answer, and the word that comes back.
 abbrev pub unpackRefusal : Unpacked → ℕ

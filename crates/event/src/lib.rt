@@ -2,8 +2,9 @@
 // data, and its packing into 16 bits. `specs/Words.antt` has the table and what each call answers.
 ghost use mathlib.Core.Path.{_≡_};
 ghost use Prim.Native.Nat.{_<_, _+_, _*_, _^_};
-ghost use Rattle.event.specs.Words.{bitsOf, eventOf, unpacked, packed};
+ghost use Rattle.event.specs.Words.{KIND, bitsOf, eventOf, unpacked, packed};
 ghost use Rattle.event.specs.Words.{unpackRefusal, packRefusal, packWord};
+use bits::straps;
 
 pub enum Event {
     Start,
@@ -36,8 +37,6 @@ pub enum Packed {
 impl Event {
     // One more in bits 15-13, the kind.
     pub const KIND: u16 = 8192;
-    // The largest straps that have a place in a word.
-    pub const MOST_STRAPS: u8 = 15;
 }
 
 // How many values the data of a kind can have: the bits above them must be 0.
@@ -86,8 +85,8 @@ pub fn unpack(word: u16) -> Unpacked
 
 // The word of a kind and its data.
 fn word(kind: u16, field: u16) -> Packed
-    requires { ⌜ (kind < 8) × (field < 8192) ⌝ }
-    ensures { λ r. ⌜ r ≡ Packed.Word (kind * 8192 + field) ⌝ }
+    requires { ⌜ (kind < 8) × (field < KIND) ⌝ }
+    ensures { λ r. ⌜ r ≡ Packed.Word (kind * KIND + field) ⌝ }
 {
     Packed::Word(kind * Event::KIND + field)
 }
@@ -104,7 +103,7 @@ pub fn pack(event: Event) -> Packed
         Event::Pins(p) => word(4, p as u16),
         Event::Tick => word(5, 0),
         Event::Reset { straps, levels } => {
-            if straps <= Event::MOST_STRAPS {
+            if straps <= straps::MOST {
                 word(6, straps as u16 * 256 + levels as u16)
             } else {
                 Packed::StrapsTooLarge

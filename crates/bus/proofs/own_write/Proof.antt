@@ -1,5 +1,4 @@
--- `bus::own_write` meets its contract: its code is the definition. Assumes nothing.
-use mathlib.Core.Path.{refl}
+-- `bus::own_write` meets its contract: SMB_A is what `smb_a` ensures. Assumes nothing.
 use borrow.Author.Needs.{needs}
 use Rattle.bus.specs.Progress.{ownWrite}
 use Rattle.bus.proofs.own_write.Statement.{statement}
@@ -7,7 +6,7 @@ use Rattle.bus.proofs.own_write.Tie as tie
 
 returns : tie.Need-returns
 unfolding ownWrite
-returns c = refl
+returns c = rw (c .smb-a .ensures)
 
 pub own-write-spec : {M : Type 1} → statement M
-own-write-spec = tie.close (tie.spec (λ c. search needs) (λ c. search needs) returns)
+own-write-spec = tie.close (tie.spec (λ c κs. search needs) (λ c. search needs) (λ c. search needs) returns)

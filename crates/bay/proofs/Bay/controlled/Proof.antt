@@ -1,4 +1,4 @@
--- `bay::Bay::controlled` meets its contract: each field is what the function for it ensures. Assumes nothing.
+-- `bay::Bay::controlled` meets its contract: each part is what the function for it ensures. Assumes nothing.
 use borrow.Author.Needs.{needs}
 use Rattle.bay.specs.Registers.{controlledBay}
 use Rattle.bay.proofs.Bay.controlled.Statement.{statement}
@@ -6,7 +6,7 @@ use Rattle.bay.proofs.Bay.controlled.Tie as tie
 
 returns : tie.Need-returns
 unfolding controlledBay
-returns c = rw (c .before .pulse-written .ensures, c .before .before .request-written .ensures, c .before .before .before .state-written .ensures, c .before .before .before .before .present .ensures)
+returns c = rw (c .pulse-written .ensures, c .before .written .ensures, c .before .before .state-written .ensures, c .before .before .before .present .ensures)
 
 pub controlled-spec : {M : Type 1} → statement M
 controlled-spec =

@@ -1,7 +1,7 @@
 -- `bay::Bay::moved` meets its contract: where the device leaves, and where it doesn't. Assumes nothing.
+use borrow.Author.Needs.{needs}
 use mathlib.Core.Path.{_≡_}
 use mathlib.Core.Bool.{true, false}
-use borrow.Author.Needs.{needs}
 use Rattle.bay.specs.Moves.{leaves, stateAfter, inUse}
 use Rattle.bay.proofs.Ticks.{left, stayed}
 use Rattle.bay.proofs.Bay.moved.Statement.{statement}
@@ -9,9 +9,9 @@ use Rattle.bay.proofs.Bay.moved.Tie as tie
 
 returns : tie.Need-returns
 returns c =
-    let a = c .before .before .before .before .before .before .before .before .before .before .before .before .before .before .before .args in
-    let e : leaves (a .self) (a .n1394) (a .nusb) ≡ true = rw (← c .before .before .before .before .before .before .before .before .before .before .before .before .before .before .present .ensures) (c .before .before .before .before .if1 .taken) in
-    rw (left (a .self) (a .n1394) (a .nusb) (a .nremreq) e, c .before .before .before .before .before .fallen .ensures)
+    let a = c .before .before .before .before .before .before .before .before .before .before .before .before .before .before .before .before .args in
+    let e : leaves (a .self) (a .n1394) (a .nusb) ≡ true = rw (← c .before .before .before .before .before .before .before .before .before .before .before .before .before .before .before .present .ensures) (c .before .before .before .before .before .if1 .taken) in
+    rw (left (a .self) (a .n1394) (a .nusb) (a .nremreq) e, c .before .before .before .before .before .before .fallen .ensures, c .released .ensures)
 
 returns-2 : tie.Need-returns-2
 unfolding stateAfter inUse
@@ -23,4 +23,10 @@ returns-2 c =
 pub moved-spec : {M : Type 1} → statement M
 moved-spec =
     tie.close
-    (tie.spec (λ c κs. search needs) (λ c κs. search needs) returns (λ c κs. search needs) returns-2)
+    (tie.spec
+    (λ c κs. search needs)
+    (λ c κs. search needs)
+    (λ c κs. search needs)
+    returns
+    (λ c κs. search needs)
+    returns-2)

@@ -6,7 +6,9 @@ use Rattle.bay.proofs.Bay.reset.Tie as tie
 
 returns : tie.Need-returns
 unfolding resetBay
-returns c = rw (c .before .before .before .has .ensures, c .before .before .has2 .ensures, c .before .has3 .ensures, c .has4 .ensures)
+returns c = rw (c .before .before .before .before .has .ensures, c .before .before .before .has2 .ensures, c .before .before .has3 .ensures, c .before .has4 .ensures, c .locked .ensures)
 
 pub reset-spec : {M : Type 1} → statement M
-reset-spec = tie.close (tie.spec (λ c κs. search needs) (λ c κs. search needs) (λ c κs. search needs) (λ c κs. search needs) returns)
+reset-spec =
+    tie.close
+    (tie.spec (λ c κs. search needs) (λ c κs. search needs) (λ c κs. search needs) (λ c κs. search needs) (λ c κs. search needs) returns)

@@ -1,8 +1,8 @@
--- `bay::Bay::request_written` meets its contract: the test is the one by which the definition chooses. Assumes nothing.
+-- `bay::Control::request_written` meets its contract: the test is the one by which the definition chooses. Assumes nothing.
 use borrow.Author.Needs.{needs}
 use Rattle.bay.specs.Registers.{requestWritten}
-use Rattle.bay.proofs.Bay.request_written.Statement.{statement}
-use Rattle.bay.proofs.Bay.request_written.Tie as tie
+use Rattle.bay.proofs.Control.request_written.Statement.{statement}
+use Rattle.bay.proofs.Control.request_written.Tie as tie
 
 returns : tie.Need-returns
 unfolding requestWritten
