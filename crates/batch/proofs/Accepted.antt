@@ -8,7 +8,7 @@ use lib.Dec.{T, ltb}
 use borrow.Author.Tests.{ltb-false}
 use denote.Enum.Declared.{tagOf}
 use Rattle.bus.proofs.Cases.{among}
-use Rattle.dock.specs.Record.{fits}
+use Rattle.machine.specs.Record.{fits}
 use Rattle.dock.specs.declared.Controller.{Controller}
 use Rattle.batch.specs.Batch.{outcomeOf, stateBy, bufferBy}
 use Rattle.batch.specs.declared.Outcome.{Outcome}
@@ -21,7 +21,7 @@ not-done e h = rw e at h
 -- It had room for a record a word, and counts its words.
 pub has-room : (s : Controller) (words bytes n : ℕ) → outcomeOf s words bytes ≡ Done n → (4 * words ≤ bytes) × (n ≡ words)
 unfolding outcomeOf
-has-room s words bytes n e = go (fits s) (ltb 16384 words) (ltb bytes (4 * words)) refl e
+has-room s words bytes n e = go (fits (s .machine)) (ltb 16384 words) (ltb bytes (4 * words)) refl e
   where
     go :
         (f m b : Bool) → ltb bytes (4 * words) ≡ b

@@ -6,7 +6,7 @@ use mathlib.Core.Path.{_≡_, refl, _∙_}
 use Rattle.bus.specs.Reply.{replyNumber, replyByte}
 use Rattle.bus.specs.declared.Reply.{Reply}
 use Rattle.bus.specs.declared.Reply.the-variants.{Nothing, Ack, NoAck, Driven, NotDriven}
-use Rattle.dock.specs.Answers.{refusalOf, replyOf, byteOf, outputsIn}
+use Rattle.dock.specs.Answers.{refusalOf, replyOf, byteOf, outputsOf}
 use Rattle.dock.specs.declared.Answer.{Answer}
 use Rattle.dock.specs.declared.Answer.the-variants.{Done, Unfit, StrayBit, NotStarted}
 use Rattle.batch.specs.Record.{fields, recordNumber, bytesOf, recordOf}
@@ -42,7 +42,7 @@ reply-back NoAck o = refl
 reply-back (Driven v) o = refl
 reply-back NotDriven o = refl
 
-answer-back : (a : Answer) → answerBy (refusalOf a) (replyOf a) (byteOf a) (outputsIn a) ≡ a
+answer-back : (a : Answer) → answerBy (refusalOf a) (replyOf a) (byteOf a) (outputsOf a) ≡ a
 answer-back (Done r o) = reply-back r o
 answer-back Unfit = refl
 answer-back (StrayBit o) = refl
@@ -61,7 +61,7 @@ numbers-small Unfit = omega arith
 numbers-small (StrayBit o) = omega arith
 numbers-small NotStarted = omega arith
 
-number-is : (a : Answer) → byteOf a < 256 → outputsIn a < 512 → recordNumber a ≡ fields (refusalOf a) (replyOf a) (byteOf a) (outputsIn a)
+number-is : (a : Answer) → byteOf a < 256 → outputsOf a < 512 → recordNumber a ≡ fields (refusalOf a) (replyOf a) (byteOf a) (outputsOf a)
 unfolding recordNumber
 number-is a hb ho = let h = numbers-small a in rw (mod-eq-of-lt (h .0), mod-eq-of-lt (h .1), mod-eq-of-lt ho)
 
@@ -69,9 +69,9 @@ number-small : (r p b o : ℕ) → r < 16 → p < 8 → b < 256 → o < 512 → 
 number-small r p b o hr hp hb ho = omega arith
 
 -- Of an answer whose byte is a byte and whose outputs are nine bits.
-pub decoded : (a : Answer) → byteOf a < 256 → outputsIn a < 512 → decode (recordOf a) ≡ a
+pub decoded : (a : Answer) → byteOf a < 256 → outputsOf a < 512 → decode (recordOf a) ≡ a
 unfolding decode recordOf
 decoded a hb ho =
     let h = numbers-small a in
-    rw (number-is a hb ho, bytes-back (fields (refusalOf a) (replyOf a) (byteOf a) (outputsIn a)) (number-small _ _ _ _ (h .0) (h .1) hb ho))
+    rw (number-is a hb ho, bytes-back (fields (refusalOf a) (replyOf a) (byteOf a) (outputsOf a)) (number-small _ _ _ _ (h .0) (h .1) hb ho))
     (fields-back _ _ _ _ (h .0) (h .1) hb ho ∙ answer-back a)

@@ -8,10 +8,10 @@ use mathlib.Core.List.{List, [], _∷_, _++_, append-assoc}
 use lib.ListN.{length, getD, take, drop, take-append-drop}
 use lib.Seq.{take-at, drop-at, drop-cons, length-take-le}
 use denote.Ref.{RefT, now}
-use Rattle.dock.specs.Record.{fits}
+use Rattle.machine.specs.Record.{fits}
 use Rattle.dock.specs.Step.{stepOf}
 use Rattle.dock.specs.Run.{after, answersTo}
-use Rattle.dock.specs.Answers.{byteOf, outputsIn}
+use Rattle.dock.specs.Answers.{byteOf, outputsOf}
 use Rattle.dock.specs.declared.Controller.{Controller}
 use Rattle.dock.specs.declared.Answer.{Answer}
 use Rattle.dock.proofs.Run.{after-append, answers-append, answers-length}
@@ -80,9 +80,9 @@ alone-or-batched s ws buffer n e =
 -- A batch of one word leaves the state that the single call leaves, of an unfit state too.
 pub one-word : (s : Controller) (w : ℕ) → batchOf s (w ∷ []) 4 .controller ≡ stepOf s w .controller
 unfolding batchOf outcomeOf after stepOf
-one-word s w = go (fits s) refl
+one-word s w = go (fits (s .machine)) refl
   where
-    go : (f : Bool) → fits s ≡ f → stateBy (cond f (Done 1) Unfit) s (w ∷ []) ≡ stepOf s w .controller
+    go : (f : Bool) → fits (s .machine) ≡ f → stateBy (cond f (Done 1) Unfit) s (w ∷ []) ≡ stepOf s w .controller
     go true e = refl
     go false e = rw e
 
@@ -101,7 +101,7 @@ cut-anywhere s xs ys =
 
 -- ---- a record decodes to the answer it was made of
 
-pub record-decodes : (a : Answer) → byteOf a < 256 → outputsIn a < 512 → decode (recordOf a) ≡ a
+pub record-decodes : (a : Answer) → byteOf a < 256 → outputsOf a < 512 → decode (recordOf a) ≡ a
 record-decodes = decoded
 
 -- ---- the contracts determine their answers

@@ -4,18 +4,22 @@ use mathlib.Core.Bool.{cond}
 use mathlib.Core.List.{List, _++_}
 use lib.Dec.{ltb}
 use lib.ListN.{length, drop}
-use Rattle.dock.specs.Record.{fits}
+use Rattle.machine.specs.Record.{fits}
 use Rattle.dock.specs.Run.{after, answersTo}
 use Rattle.dock.specs.declared.Controller.{Controller}
-use Rattle.batch.specs.Record.{recordsOf}
+use Rattle.batch.specs.Record.{RECORD, recordsOf}
 use Rattle.batch.specs.declared.Outcome.{Outcome}
 use Rattle.batch.specs.declared.Outcome.the-variants.{Done, Unfit, TooFewBytes, TooManyWords}
 use Rattle.batch.specs.declared.Batched.{Batched}
 
+-- The most words in one batch.
+abbrev pub MOST-WORDS : ℕ
+MOST-WORDS = 16384
+
 -- Order for a batch: 1, 5, 4. No words: accepted, count 0.
 unfoldable pub outcomeOf : Controller → ℕ → ℕ → Outcome
 outcomeOf s words bytes =
-    cond (fits s) (cond (ltb 16384 words) TooManyWords (cond (ltb bytes (4 * words)) TooFewBytes (Done words))) Unfit
+    cond (fits (s .machine)) (cond (ltb MOST-WORDS words) TooManyWords (cond (ltb bytes (RECORD * words)) TooFewBytes (Done words))) Unfit
 
 -- A batch that is refused gives the state as given; one that isn't, the state after its words.
 abbrev pub stateBy : Outcome → Controller → List ℕ → Controller
@@ -31,7 +35,7 @@ batchOf s ws bytes =
 -- A batch that is refused writes nothing; one that isn't writes a record for each word in order, at its own place, and bytes past
 -- the last record are unchanged.
 abbrev pub bufferBy : Outcome → Controller → List ℕ → List ℕ → List ℕ
-bufferBy (Done n) s ws buffer = recordsOf (answersTo s ws) ++ drop (4 * length ws) buffer
+bufferBy (Done n) s ws buffer = recordsOf (answersTo s ws) ++ drop (RECORD * length ws) buffer
 bufferBy Unfit s ws buffer = buffer
 bufferBy TooFewBytes s ws buffer = buffer
 bufferBy TooManyWords s ws buffer = buffer

@@ -9,7 +9,7 @@ use Rattle.script.specs.declared.Line.the-variants.{Blank, Unknown, Misused, Do
 use Rattle.script.specs.declared.Order.the-variants.{Event as One, Ticks, Write}
 use Rattle.event.specs.Words.{wordOf, strapsOf, packed}
 use Rattle.event.specs.declared.Event.the-variants.{Pins, Reset}
-use Rattle.demand.specs.Examples.{R, N, w, pins, ticks}
+use Rattle.dock.specs.Examples.{R, N, w, pins, ticks}
 use Rattle.bench.specs.Orders.{wordsOf, does, heeded}
 use Rattle.bench.specs.declared.Bench.{Bench}
 

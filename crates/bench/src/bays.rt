@@ -4,7 +4,10 @@ use crate::say::say;
 use crate::say::say_either;
 use crate::say::say_if;
 use bay::Bay;
+use bits::has;
 use dock::Controller;
+use machine::Machine;
+use machine::Shared;
 
 // A register's reading, which is a byte.
 pub(crate) fn read(controller: Controller, register: u8) -> u8 {
@@ -14,18 +17,10 @@ pub(crate) fn read(controller: Controller, register: u8) -> u8 {
 // What is to be seen of a controller now.
 pub(crate) fn look(controller: Controller) -> Seen {
     Seen {
-        one_bay: read(controller, Controller::DBCCR) % 4 == Controller::ONE_BAY,
-        bstr_0: read(controller, Controller::BSTR_0),
-        bstr_1: read(controller, Controller::BSTR_1),
+        one_bay: read(controller, Machine::DBCCR) % 4 == Shared::ONE_BAY,
+        bstr_0: read(controller, Machine::BSTR_0),
+        bstr_1: read(controller, Machine::BSTR_1),
         outputs: controller.outputs().value(),
-    }
-}
-
-pub(crate) fn is_set(value: u8, weight: u8) -> bool {
-    if weight == 0 {
-        false
-    } else {
-        value / weight % 2 == 1
     }
 }
 
@@ -43,22 +38,22 @@ pub(crate) fn say_state(state: u8) {
 
 pub(crate) fn say_bay(bstr: u8) {
     say_state(bstr / 16 % 8);
-    say_if(is_set(bstr, 2), b", 1394 device");
-    say_if(is_set(bstr, 1), b", USB device");
+    say_if(has(bstr, 2), b", 1394 device");
+    say_if(has(bstr, 1), b", USB device");
     say_if(bstr % 4 == 0, b", no device");
-    say_if(is_set(bstr, 8), b", REMREQ_STS");
-    say_if(is_set(bstr, 4), b", DEVSTSCHG");
-    say_if(is_set(bstr, 128), b", nSL low");
+    say_if(has(bstr, 8), b", REMREQ_STS");
+    say_if(has(bstr, 4), b", DEVSTSCHG");
+    say_if(has(bstr, 128), b", nSL low");
 }
 
 // A bay's line: its BSTR, then its power, lock pin, green and yellow, bit 3 to 0.
 fn tell_bay(name: &[u8], bstr: u8, pins: u8) {
     say(name);
     say_bay(bstr);
-    say_either(is_set(pins, 8), b"; power on", b"; power off");
-    say_either(is_set(pins, 4), b", lock pin high", b", lock pin low");
-    say_either(is_set(pins, 2), b", green on", b", green off");
-    say_either(is_set(pins, 1), b", yellow on\n", b", yellow off\n");
+    say_either(has(pins, 8), b"; power on", b"; power off");
+    say_either(has(pins, 4), b", lock pin high", b", lock pin low");
+    say_either(has(pins, 2), b", green on", b", green off");
+    say_either(has(pins, 1), b", yellow on\n", b", yellow off\n");
 }
 
 fn tell_bay_0(seen: Seen) {

@@ -1,5 +1,4 @@
 // The registers by their names, and what a reading says.
-use crate::bays::is_set;
 use crate::bays::read;
 use crate::bays::say_bay;
 use crate::bays::say_state;
@@ -7,17 +6,20 @@ use crate::say::say;
 use crate::say::say_byte;
 use crate::say::say_count;
 use crate::say::say_if;
+use bits::has;
 use bus::Reply;
 use dock::Answer;
 use dock::Controller;
+use machine::Machine;
+use machine::Shared;
 
 fn say_dbccr(dbccr: u8) {
     let count = dbccr % 4;
     say(b": ");
-    say_if(is_set(dbccr, 16), b"SECLOCK, ");
+    say_if(has(dbccr, 16), b"SECLOCK, ");
     say(b"bay count ");
     say_count(count as u64);
-    say_if(count == Controller::ONE_BAY, b", bay 1 closed");
+    say_if(count == Shared::ONE_BAY, b", bay 1 closed");
 }
 
 fn say_bstr(bstr: u8) {
@@ -37,34 +39,34 @@ fn say_request(request: u8) {
 
 fn say_bcer(bcer: u8) {
     say(b": ");
-    say_if(is_set(bcer, 128), b"LOCK_CTL, ");
+    say_if(has(bcer, 128), b"LOCK_CTL, ");
     say_request(bcer / 16 % 8);
-    say_if(is_set(bcer, 8), b", REMREQ_EN");
-    say_if(is_set(bcer, 4), b", DEVSTSCHG_EN");
-    say_if(is_set(bcer, 2), b", REMEVTWAK_EN");
-    say_if(is_set(bcer, 1), b", PWR_CTL");
+    say_if(has(bcer, 8), b", REMREQ_EN");
+    say_if(has(bcer, 4), b", DEVSTSCHG_EN");
+    say_if(has(bcer, 2), b", REMEVTWAK_EN");
+    say_if(has(bcer, 1), b", PWR_CTL");
 }
 
 fn say_name(register: u8) {
     match register {
-        Controller::VENDOR_LOW => say(b" vendor, low byte,"),
-        Controller::VENDOR_HIGH => say(b" vendor, high byte,"),
-        Controller::REVISION => say(b" revision"),
-        Controller::DBCCR => say(b" DBCCR"),
-        Controller::BSTR_0 => say(b" BSTR of bay 0"),
-        Controller::BCER_0 => say(b" BCER of bay 0"),
-        Controller::BSTR_1 => say(b" BSTR of bay 1"),
-        Controller::BCER_1 => say(b" BCER of bay 1"),
-        Controller::LETR => say(b" LETR"),
+        Machine::VENDOR_LOW => say(b" vendor, low byte,"),
+        Machine::VENDOR_HIGH => say(b" vendor, high byte,"),
+        Machine::REVISION => say(b" revision"),
+        Machine::DBCCR => say(b" DBCCR"),
+        Machine::BSTR_0 => say(b" BSTR of bay 0"),
+        Machine::BCER_0 => say(b" BCER of bay 0"),
+        Machine::BSTR_1 => say(b" BSTR of bay 1"),
+        Machine::BCER_1 => say(b" BCER of bay 1"),
+        Machine::LETR => say(b" LETR"),
         _ => {}
     }
 }
 
 fn say_meaning(register: u8, value: u8) {
     match register {
-        Controller::DBCCR => say_dbccr(value),
-        Controller::BSTR_0 | Controller::BSTR_1 => say_bstr(value),
-        Controller::BCER_0 | Controller::BCER_1 => say_bcer(value),
+        Machine::DBCCR => say_dbccr(value),
+        Machine::BSTR_0 | Machine::BSTR_1 => say_bstr(value),
+        Machine::BCER_0 | Machine::BCER_1 => say_bcer(value),
         _ => {}
     }
 }
@@ -99,13 +101,13 @@ fn tell_now(controller: Controller, register: u8) {
 
 // Every register that a dock has.
 pub(crate) fn tell_registers(controller: Controller) {
-    tell_now(controller, Controller::VENDOR_LOW);
-    tell_now(controller, Controller::VENDOR_HIGH);
-    tell_now(controller, Controller::REVISION);
-    tell_now(controller, Controller::DBCCR);
-    tell_now(controller, Controller::BSTR_0);
-    tell_now(controller, Controller::BCER_0);
-    tell_now(controller, Controller::BSTR_1);
-    tell_now(controller, Controller::BCER_1);
-    tell_now(controller, Controller::LETR);
+    tell_now(controller, Machine::VENDOR_LOW);
+    tell_now(controller, Machine::VENDOR_HIGH);
+    tell_now(controller, Machine::REVISION);
+    tell_now(controller, Machine::DBCCR);
+    tell_now(controller, Machine::BSTR_0);
+    tell_now(controller, Machine::BCER_0);
+    tell_now(controller, Machine::BSTR_1);
+    tell_now(controller, Machine::BCER_1);
+    tell_now(controller, Machine::LETR);
 }

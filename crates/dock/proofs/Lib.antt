@@ -1,13 +1,7 @@
-pub mod Choice
-pub mod Bays
 pub mod Kept
-pub mod Fit
-pub mod Sound
+pub mod Laws
+pub mod Decided
 pub mod Refusals
 pub mod Run
-pub mod Ranges
-pub mod Laws
-pub mod Straps
 pub mod Determined
-pub mod Decided
-pub mod Dbccr
+pub mod Examples

@@ -13,7 +13,7 @@ use Rattle.event.specs.declared.Unpacked.the-variants.{Accepted, StrayBit as No
 use Rattle.event.proofs.Theorems.{words-refused}
 use Rattle.event.proofs.RoundTrip.{accepted-is-none}
 use Rattle.bay.proofs.Taut.{pick}
-use Rattle.dock.specs.Record.{fits}
+use Rattle.machine.specs.Record.{fits}
 use Rattle.dock.specs.Answers.{refusalOf}
 use Rattle.dock.specs.Step.{takes, stepFit, stepOf}
 use Rattle.dock.specs.Refusals.{IsReset, Exactly}
@@ -23,14 +23,14 @@ use Rattle.dock.specs.declared.Stepped.{Stepped}
 -- A refused word leaves the state as it came.
 pub refused-unchanged : (s : Controller) (w : ℕ) → refusalOf (stepOf s w .answer) ≢ 0 → stepOf s w .controller ≡ s
 unfolding stepOf
-refused-unchanged s w = pick Unchanged (fits s) (λ f. by-word (unpacked w)) (λ f n. refl)
+refused-unchanged s w = pick Unchanged (fits (s .machine)) (λ f. by-word (unpacked w)) (λ f n. refl)
   where
     Unchanged : Stepped → Type 0
     Unchanged x = refusalOf (x .answer) ≢ 0 → x .controller ≡ s
 
     by-word : (u : Unpacked) → Unchanged (stepFit s u)
     by-word NoEvent = λ n. refl
-    by-word (Accepted e) = pick Unchanged (takes (s .started) e) (λ t n. absurd (n refl)) (λ t n. refl)
+    by-word (Accepted e) = pick Unchanged (takes (s .machine .started) e) (λ t n. absurd (n refl)) (λ t n. refl)
 
 -- What is taken: anything once started, and before that a RESET.
 Taken : Bool → Event → Type 0
@@ -61,7 +61,7 @@ takes-it b e (inr r) = rw (r .2) (reset-taken b (r .0) (r .1))
 -- ---- the three tests, one after the other
 
 module _ (s : Controller) (w : ℕ) where
-  unfit : fits s ≡ false → Exactly s w 1
+  unfit : fits (s .machine) ≡ false → Exactly s w 1
   unfit f =
       record {
         one = (λ n. f, λ g. refl);
@@ -70,7 +70,7 @@ module _ (s : Controller) (w : ℕ) where
         none = (λ n. absurd (omega arith), λ h. absurd (false≢true (sym f ∙ h .0)));
       }
 
-  stray : fits s ≡ true → StrayBitSet w → Exactly s w 2
+  stray : fits (s .machine) ≡ true → StrayBitSet w → Exactly s w 2
   stray f b =
       record {
         one = (λ n. absurd (omega arith), λ g. absurd (true≢false (sym f ∙ g)));
@@ -79,7 +79,7 @@ module _ (s : Controller) (w : ℕ) where
         none = (λ n. absurd (omega arith), λ h. absurd (h .1 b));
       }
 
-  early : fits s ≡ true → (StrayBitSet w → ⊥) → s .started ≡ false → (IsReset w → ⊥) → Exactly s w 3
+  early : fits (s .machine) ≡ true → (StrayBitSet w → ⊥) → s .machine .started ≡ false → (IsReset w → ⊥) → Exactly s w 3
   early f b t r =
       record {
         one = (λ n. absurd (omega arith), λ g. absurd (true≢false (sym f ∙ g)));
@@ -88,7 +88,7 @@ module _ (s : Controller) (w : ℕ) where
         none = (λ n. absurd (omega arith), λ h. absurd (⊎-elim (λ u. true≢false (sym u ∙ t)) r (h .2)));
       }
 
-  accepted : fits s ≡ true → (StrayBitSet w → ⊥) → (s .started ≡ true) ⊎ IsReset w → Exactly s w 0
+  accepted : fits (s .machine) ≡ true → (StrayBitSet w → ⊥) → (s .machine .started ≡ true) ⊎ IsReset w → Exactly s w 0
   accepted f b t =
       record {
         one = (λ n. absurd (omega arith), λ g. absurd (true≢false (sym f ∙ g)));
@@ -97,12 +97,12 @@ module _ (s : Controller) (w : ℕ) where
         none = (λ n. (f, b, t), λ h. refl);
       }
 
-  by-event : fits s ≡ true → (StrayBitSet w → ⊥) → (e : Event) → unpacked w ≡ Accepted e → Exactly s w (refusalOf (stepFit s (Accepted e) .answer))
+  by-event : fits (s .machine) ≡ true → (StrayBitSet w → ⊥) → (e : Event) → unpacked w ≡ Accepted e → Exactly s w (refusalOf (stepFit s (Accepted e) .answer))
   unfolding Taken
   by-event f b e p =
-      pick (λ (x : Stepped). Exactly s w (refusalOf (x .answer))) (takes (s .started) e) (λ k. accepted f b (reset-word (taken _ e k))) (λ k. refused-early k)
+      pick (λ (x : Stepped). Exactly s w (refusalOf (x .answer))) (takes (s .machine .started) e) (λ k. accepted f b (reset-word (taken _ e k))) (λ k. refused-early k)
     where
-      reset-word : Taken (s .started) e → (s .started ≡ true) ⊎ IsReset w
+      reset-word : Taken (s .machine .started) e → (s .machine .started ≡ true) ⊎ IsReset w
       reset-word (inl t) = inl t
       reset-word (inr r) = inr (r .0, r .1, p ∙ ap Accepted (r .2))
 
@@ -110,20 +110,20 @@ module _ (s : Controller) (w : ℕ) where
       same : {x : Event} → unpacked w ≡ Accepted x → e ≡ x
       same q = let j : Accepted e ≡ Accepted _ = sym p ∙ q in cc
 
-      refused-early : takes (s .started) e ≡ false → Exactly s w 3
+      refused-early : takes (s .machine .started) e ≡ false → Exactly s w 3
       refused-early k =
-          early f b (not-started (s .started) refl)
-          (λ r. false≢true (sym k ∙ takes-it (s .started) e (inr (r .0, r .1, same (r .2)))))
+          early f b (not-started (s .machine .started) refl)
+          (λ r. false≢true (sym k ∙ takes-it (s .machine .started) e (inr (r .0, r .1, same (r .2)))))
         where
-          not-started : (t : Bool) → s .started ≡ t → s .started ≡ false
-          not-started true t = absurd (false≢true (sym k ∙ takes-it (s .started) e (inl t)))
+          not-started : (t : Bool) → s .machine .started ≡ t → s .machine .started ≡ false
+          not-started true t = absurd (false≢true (sym k ∙ takes-it (s .machine .started) e (inl t)))
           not-started false t = t
 
-  by-word : fits s ≡ true → (u : Unpacked) → unpacked w ≡ u → Exactly s w (refusalOf (stepFit s u .answer))
+  by-word : fits (s .machine) ≡ true → (u : Unpacked) → unpacked w ≡ u → Exactly s w (refusalOf (stepFit s u .answer))
   by-word f NoEvent p = stray f (words-refused w .0 p)
   by-word f (Accepted e) p = by-event f (λ b. accepted-is-none (sym p ∙ words-refused w .1 b)) e p
 
   -- Each refusal is given exactly when the table says.
   pub exactly : Exactly s w (refusalOf (stepOf s w .answer))
   unfolding stepOf
-  exactly = pick (λ (x : Stepped). Exactly s w (refusalOf (x .answer))) (fits s) (λ f. by-word f (unpacked w) refl) (λ f. unfit f)
+  exactly = pick (λ (x : Stepped). Exactly s w (refusalOf (x .answer))) (fits (s .machine)) (λ f. by-word f (unpacked w) refl) (λ f. unfit f)

@@ -24,11 +24,11 @@ byteOf Unfit = 0
 byteOf (StrayBit o) = 0
 byteOf NotStarted = 0
 
-abbrev pub outputsIn : Answer → ℕ
-outputsIn (Done r o) = o
-outputsIn Unfit = 0
-outputsIn (StrayBit o) = o
-outputsIn NotStarted = 0
+abbrev pub outputsOf : Answer → ℕ
+outputsOf (Done r o) = o
+outputsOf Unfit = 0
+outputsOf (StrayBit o) = o
+outputsOf NotStarted = 0
 
 -- A question about a state: an unfit state is refused with 1 and value 0.
 abbrev pub toldRefusal : Told → ℕ

@@ -1,10 +1,7 @@
 pub mod Record
-pub mod Outputs
-pub mod Registers
 pub mod Events
 pub mod Answers
 pub mod Step
 pub mod Refusals
 pub mod Run
-pub mod Sound
-pub mod Kept
+pub mod Examples

@@ -6,12 +6,11 @@ use Rattle.event.specs.declared.Event.{Event}
 use Rattle.event.specs.declared.Event.the-variants.{Start, Stop, Byte, Take, Pins, Tick, Reset, Timeout}
 use Rattle.event.specs.declared.Unpacked.{Unpacked}
 use Rattle.event.specs.declared.Unpacked.the-variants.{Accepted, StrayBit as NoEvent}
-use Rattle.dock.specs.Record.{fits}
-use Rattle.dock.specs.Outputs.{outputsOf}
-use Rattle.dock.specs.Registers.{readingOf}
-use Rattle.dock.specs.Events.{actedOn}
+use Rattle.machine.specs.Record.{fits}
+use Rattle.machine.specs.Outputs.{outputs}
+use Rattle.machine.specs.Registers.{reading}
+use Rattle.dock.specs.Events.{turnOf, next}
 use Rattle.dock.specs.declared.Controller.{Controller}
-use Rattle.dock.specs.declared.Acted.{Acted}
 use Rattle.dock.specs.declared.Answer.{Answer}
 use Rattle.dock.specs.declared.Answer.the-variants.{Done, Unfit, StrayBit, NotStarted}
 use Rattle.dock.specs.declared.Stepped.{Stepped}
@@ -35,20 +34,20 @@ abbrev pub refused : Controller → Answer → Stepped
 refused s a = record { controller = s; answer = a }
 
 -- The next state, its reply and its outputs.
-abbrev pub done : Acted → Stepped
-done a = record { controller = a .controller; answer = Done (a .reply) (outputsOf (a .controller)) }
+abbrev pub doneStep : Controller → Event → Stepped
+doneStep s e = record { controller = next s e; answer = Done (turnOf s e .reply) (outputs (next s e .machine)) }
 
 -- Order for an event: 1, 2, 3.
 abbrev pub stepFit : Controller → Unpacked → Stepped
-stepFit s NoEvent = refused s (StrayBit (outputsOf s))
-stepFit s (Accepted e) = cond (takes (s .started) e) (done (actedOn s e)) (refused s NotStarted)
+stepFit s NoEvent = refused s (StrayBit (outputs (s .machine)))
+stepFit s (Accepted e) = cond (takes (s .machine .started) e) (doneStep s e) (refused s NotStarted)
 
 unfoldable pub stepOf : Controller → ℕ → Stepped
-stepOf s w = cond (fits s) (stepFit s (unpacked w)) (refused s Unfit)
+stepOf s w = cond (fits (s .machine)) (stepFit s (unpacked w)) (refused s Unfit)
 
 -- Asking a state for one register's reading or for its outputs, outside the bus.
 unfoldable pub toldReading : Controller → ℕ → Told
-toldReading s a = cond (fits s) (Value (readingOf s a)) NotFit
+toldReading s a = cond (fits (s .machine)) (Value (reading (s .machine) a)) NotFit
 
 unfoldable pub toldOutputs : Controller → Told
-toldOutputs s = cond (fits s) (Value (outputsOf s)) NotFit
+toldOutputs s = cond (fits (s .machine)) (Value (outputs (s .machine))) NotFit

@@ -1,6 +1,6 @@
 // The paper's numbers of an answer (document 01, "Replies and refusal numbers").
 ghost use mathlib.Core.Path.{_≡_};
-ghost use Rattle.dock.specs.Answers.{refusalOf, replyOf, byteOf, outputsIn, toldRefusal, toldValue};
+ghost use Rattle.dock.specs.Answers.{refusalOf, replyOf, byteOf, outputsOf, toldRefusal, toldValue};
 use crate::Answer;
 use crate::Told;
 
@@ -39,7 +39,7 @@ impl Answer {
     }
 
     pub fn outputs(self) -> u16
-        ensures { λ r. ⌜ r ≡ outputsIn self ⌝ }
+        ensures { λ r. ⌜ r ≡ outputsOf self ⌝ }
     {
         match self {
             Answer::Done(_, outputs) => outputs,

@@ -44,17 +44,17 @@ impl Controller {
             return self.refused(Answer::Unfit);
         }
         let Unpacked::Accepted(event) = event::unpack(word) else {
-            return self.refused(Answer::StrayBit(self.drive()));
+            return self.refused(Answer::StrayBit(self.machine.outputs()));
         };
-        if !takes(self.started, event) {
+        if !takes(self.machine.started, event) {
             return self.refused(Answer::NotStarted);
         }
-        let acted = self.act(event);
-        let next = acted.controller;
-        let reply = acted.reply;
+        let turn = self.turn(event);
+        let reply = turn.reply;
+        let next = turn.taken(self.machine);
         Stepped {
             controller: next,
-            answer: Answer::Done(reply, next.drive()),
+            answer: Answer::Done(reply, next.machine.outputs()),
         }
     }
 
@@ -63,7 +63,7 @@ impl Controller {
         ensures { λ r. ⌜ r ≡ toldReading self address ⌝ }
     {
         if self.fit() {
-            Told::Value(self.read(address) as u16)
+            Told::Value(self.machine.reading(address) as u16)
         } else {
             Told::Unfit
         }
@@ -74,7 +74,7 @@ impl Controller {
         ensures { λ r. ⌜ r ≡ toldOutputs self ⌝ }
     {
         if self.fit() {
-            Told::Value(self.drive())
+            Told::Value(self.machine.outputs())
         } else {
             Told::Unfit
         }

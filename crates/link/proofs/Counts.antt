@@ -7,7 +7,7 @@ use lib.Dec.{ltb}
 use lib.ListN.{length}
 use borrow.Author.Tests.{ltb-false}
 use Rattle.bay.proofs.Taut.{pick}
-use Rattle.dock.specs.Record.{fits}
+use Rattle.machine.specs.Record.{fits}
 use Rattle.dock.specs.declared.Controller.{Controller}
 use Rattle.batch.specs.Batch.{outcomeOf, batchOf}
 use Rattle.batch.specs.declared.Batched.{Batched}
@@ -17,7 +17,7 @@ use Rattle.batch.specs.declared.Outcome.{Outcome}
 pub count-most : (s : Controller) (words bytes : ℕ) → (outcomeCount (outcomeOf s words bytes) ≤ 16384) × (outcomeRefusal (outcomeOf s words bytes) ≤ 5)
 unfolding outcomeOf
 count-most s words bytes =
-    pick Small (fits s)
+    pick Small (fits (s .machine))
     (λ f. pick Small (ltb 16384 words) (λ m. omega arith)
     (λ m. pick Small (ltb bytes (4 * words)) (λ b. omega arith) (λ b. (ltb-false 16384 words m, omega arith))))
     (λ f. omega arith)

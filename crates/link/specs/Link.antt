@@ -14,7 +14,7 @@ use Rattle.dock.specs.Run.{after}
 use Rattle.dock.specs.Step.{toldReading, toldOutputs}
 use Rattle.dock.specs.Answers.{toldRefusal, toldValue}
 use Rattle.dock.specs.declared.Told.{Told}
-use Rattle.batch.specs.Batch.{outcomeOf}
+use Rattle.batch.specs.Batch.{MOST-WORDS, outcomeOf}
 use Rattle.batch.specs.Outcome.{outcomeRefusal, outcomeCount}
 use Rattle.link.specs.declared.Meant.{Meant}
 use Rattle.link.specs.declared.Meant.the-variants.{This, NoEvent}
@@ -83,7 +83,7 @@ abbrev pub told : Told → ℕ
 told t = both (toldRefusal t) (toldValue t)
 
 unfoldable pub readingAfter : List ℕ → ℕ → ℕ
-readingAfter ws a = cond (ltb 16384 (length ws)) (both 5 0) (told (toldReading (after freshController ws) a))
+readingAfter ws a = cond (ltb MOST-WORDS (length ws)) (both 5 0) (told (toldReading (after freshController ws) a))
 
 unfoldable pub outputsAfter : List ℕ → ℕ
-outputsAfter ws = cond (ltb 16384 (length ws)) (both 5 0) (told (toldOutputs (after freshController ws)))
+outputsAfter ws = cond (ltb MOST-WORDS (length ws)) (both 5 0) (told (toldOutputs (after freshController ws)))

@@ -79,7 +79,7 @@ fn main() {
     );
     show(&all);
     let mut damaged = Controller::fresh();
-    damaged.phase = 200;
+    damaged.machine.phase = 200;
     let mut kept = [0xEEu8; 4];
     say(
         b"phase 200, 1 word",

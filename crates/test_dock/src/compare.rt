@@ -1,7 +1,10 @@
 // Two states, field by field.
 use bay::Bay;
+use bay::Control;
 use bus::Progress;
 use dock::Controller;
+use machine::Machine;
+use machine::Shared;
 
 fn kind(p: Progress) -> u8 {
     match p {
@@ -60,34 +63,45 @@ fn same_inputs(a: Bay, b: Bay) -> bool {
         & same_counts(counts, other_counts)
 }
 
+fn same_control(a: Control, b: Control) -> bool {
+    (a.lock_ctl == b.lock_ctl)
+        & (a.request == b.request)
+        & (a.remreq_en == b.remreq_en)
+        & (a.devstschg_en == b.devstschg_en)
+        & (a.remevtwak_en == b.remevtwak_en)
+        & (a.pwr_ctl == b.pwr_ctl)
+}
+
 pub(crate) fn same_bay(a: Bay, b: Bay) -> bool {
     same_inputs(a, b)
         & (a.n_sl == b.n_sl)
         & (a.state == b.state)
         & (a.remreq_sts == b.remreq_sts)
         & (a.devstschg == b.devstschg)
-        & (a.lock_ctl == b.lock_ctl)
-        & (a.request == b.request)
-        & (a.remreq_en == b.remreq_en)
-        & (a.devstschg_en == b.devstschg_en)
-        & (a.remevtwak_en == b.remevtwak_en)
-        & (a.pwr_ctl == b.pwr_ctl)
+        & same_control(a.control, b.control)
         & (a.pulse == b.pulse)
+}
+
+fn same_shared(a: Shared, b: Shared) -> bool {
+    (a.dbccr_written == b.dbccr_written)
+        & (a.seclock == b.seclock)
+        & (a.bay_count == b.bay_count)
+        & (a.lock_time == b.lock_time)
+}
+
+fn same_machine(a: Machine, b: Machine) -> bool {
+    let bays = a.bays;
+    let other_bays = b.bays;
+    (a.started == b.started)
+        & (a.straps == b.straps)
+        & same_shared(a.shared, b.shared)
+        & (a.phase == b.phase)
+        & same_bay(bays[0], other_bays[0])
+        & same_bay(bays[1], other_bays[1])
 }
 
 pub(crate) fn same(a: Controller, b: Controller) -> bool {
     let progress = a.progress;
     let other_progress = b.progress;
-    let bays = a.bays;
-    let other_bays = b.bays;
-    (a.started == b.started)
-        & (a.straps == b.straps)
-        & (a.dbccr_written == b.dbccr_written)
-        & (a.seclock == b.seclock)
-        & (a.bay_count == b.bay_count)
-        & (a.lock_time == b.lock_time)
-        & (a.phase == b.phase)
-        & same_progress(progress, other_progress)
-        & same_bay(bays[0], other_bays[0])
-        & same_bay(bays[1], other_bays[1])
+    same_machine(a.machine, b.machine) & same_progress(progress, other_progress)
 }

@@ -4,37 +4,39 @@ use bus::Progress;
 use dock::Controller;
 
 pub(crate) fn with_phase(mut c: Controller, phase: u8) -> Controller {
-    c.phase = phase;
+    c.machine.phase = phase;
     c
 }
 
 pub(crate) fn with_straps(mut c: Controller, straps: u8) -> Controller {
-    c.straps = straps;
+    c.machine.straps = straps;
     c
 }
 
 pub(crate) fn with_lock_time(mut c: Controller, lock_time: u8) -> Controller {
-    c.lock_time = lock_time;
+    c.machine.shared.lock_time = lock_time;
     c
 }
 
 pub(crate) fn with_bay_count(mut c: Controller, bay_count: u8) -> Controller {
-    c.bay_count = bay_count;
+    c.machine.shared.bay_count = bay_count;
     c
 }
 
 pub(crate) fn bay(c: Controller, i: u8) -> Bay {
-    let bays = c.bays;
+    let bays = c.machine.bays;
     if i == 0 { bays[0] } else { bays[1] }
 }
 
-fn with_bay(mut c: Controller, i: u8, b: Bay) -> Controller {
-    let bays = c.bays;
+fn with_bay(c: Controller, i: u8, b: Bay) -> Controller {
+    let mut machine = c.machine;
+    let progress = c.progress;
+    let bays = machine.bays;
     let first = bays[0];
     let second = bays[1];
     let pair = if i == 0 { [b, second] } else { [first, b] };
-    c.bays = pair;
-    c
+    machine.bays = pair;
+    Controller { machine, progress }
 }
 
 pub(crate) fn with_state(c: Controller, i: u8, state: u8) -> Controller {
@@ -45,7 +47,7 @@ pub(crate) fn with_state(c: Controller, i: u8, state: u8) -> Controller {
 
 pub(crate) fn with_request(c: Controller, i: u8, request: u8) -> Controller {
     let mut b = bay(c, i);
-    b.request = request;
+    b.control.request = request;
     with_bay(c, i, b)
 }
 
@@ -62,16 +64,6 @@ pub(crate) fn with_counts(c: Controller, i: u8, n1394: u8, nusb: u8, nremreq: u8
 }
 
 pub(crate) fn with_progress(c: Controller, progress: Progress) -> Controller {
-    let bays = c.bays;
-    Controller {
-        started: c.started,
-        straps: c.straps,
-        dbccr_written: c.dbccr_written,
-        seclock: c.seclock,
-        bay_count: c.bay_count,
-        lock_time: c.lock_time,
-        phase: c.phase,
-        progress,
-        bays,
-    }
+    let machine = c.machine;
+    Controller { machine, progress }
 }

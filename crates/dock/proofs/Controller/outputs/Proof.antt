@@ -1,5 +1,4 @@
--- `dock::Controller::outputs` meets its contract: each return has the tests that led there, which are the definition's in its
--- order. Assumes nothing.
+-- `dock::Controller::outputs` meets its contract: each return has the test that led there. Assumes nothing.
 use borrow.Author.Needs.{needs}
 use Rattle.dock.specs.Step.{toldOutputs}
 use Rattle.dock.proofs.Controller.outputs.Statement.{statement}
@@ -7,7 +6,7 @@ use Rattle.dock.proofs.Controller.outputs.Tie as tie
 
 returns : tie.Need-returns
 unfolding toldOutputs
-returns c = rw (← c .before .before .fit .ensures, c .before .if1 .taken, c .drive .ensures)
+returns c = rw (← c .before .before .fit .ensures, c .before .if1 .taken, c .outputs .ensures)
 
 returns-2 : tie.Need-returns-2
 unfolding toldOutputs

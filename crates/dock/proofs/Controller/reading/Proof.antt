@@ -1,5 +1,4 @@
--- `dock::Controller::reading` meets its contract: each return has the tests that led there, which are the definition's in its
--- order. Assumes nothing.
+-- `dock::Controller::reading` meets its contract: each return has the test that led there. Assumes nothing.
 use borrow.Author.Needs.{needs}
 use Rattle.dock.specs.Step.{toldReading}
 use Rattle.dock.proofs.Controller.reading.Statement.{statement}
@@ -7,7 +6,7 @@ use Rattle.dock.proofs.Controller.reading.Tie as tie
 
 returns : tie.Need-returns
 unfolding toldReading
-returns c = rw (← c .before .before .fit .ensures, c .before .if1 .taken, c .read .ensures)
+returns c = rw (← c .before .before .fit .ensures, c .before .if1 .taken, c .reading .ensures)
 
 returns-2 : tie.Need-returns-2
 unfolding toldReading

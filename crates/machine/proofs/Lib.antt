@@ -1,0 +1,11 @@
+pub mod Choice
+pub mod Bays
+pub mod Addresses
+pub mod Kept
+pub mod Fit
+pub mod Sound
+pub mod Ranges
+pub mod Dbccr
+pub mod Straps
+pub mod Laws
+pub mod Determined

@@ -1,0 +1,61 @@
+-- `machine::Machine::register` meets its contract: the arm that was taken says which address it is; any other is none of the
+-- table's. Assumes nothing.
+use mathlib.Core.Logic.{⊎-elim, inl, inr}
+use borrow.Author.Tests.{ne-eqb}
+use borrow.Author.Needs.{needs}
+use Rattle.machine.specs.Registers.{register, registers, bstrAt, bcerAt}
+use Rattle.machine.proofs.Machine.register.Statement.{statement}
+use Rattle.machine.proofs.Machine.register.Tie as tie
+
+returns : tie.Need-returns
+unfolding register registers
+returns c = rw (c .match .keys1)
+
+returns-2 : tie.Need-returns-2
+unfolding register registers
+returns-2 c = rw (c .match .keys2)
+
+returns-3 : tie.Need-returns-3
+unfolding register registers
+returns-3 c = rw (c .match .keys3)
+
+returns-4 : tie.Need-returns-4
+unfolding register registers
+returns-4 c = rw (c .before .match .keys4) (c .dbccr .ensures)
+
+returns-5 : tie.Need-returns-5
+unfolding register registers bstrAt
+returns-5 c = rw (c .bstr .ensures, c .before .bay-in .ensures, c .before .before .before .is-open .ensures, c .before .before .before .before .bay-of .ensures) (⊎-elim (λ e. rw e) (λ e. rw e) (c .before .before .match .keys5))
+
+returns-6 : tie.Need-returns-6
+unfolding register registers bcerAt
+returns-6 c = rw (c .bcer .ensures, c .before .bay-in2 .ensures, c .before .before .before .is-open .ensures, c .before .before .before .before .bay-of .ensures) (⊎-elim (λ e. rw e) (λ e. rw e) (c .before .before .match .keys6))
+
+returns-7 : tie.Need-returns-7
+unfolding register registers
+returns-7 c = rw (c .before .match .keys7)
+
+returns-8 : tie.Need-returns-8
+unfolding register registers
+returns-8 c = let r = c .match .rest in
+    rw (ne-eqb _ _ (r .0 .0 .0 .0 .0 .0 .1), ne-eqb _ _ (r .0 .0 .0 .0 .0 .1), ne-eqb _ _ (r .0 .0 .0 .0 .1), ne-eqb _ _ (r .0 .0 .0 .1), ne-eqb _ _ (λ e. r .0 .0 .1 (inl e)), ne-eqb _ _ (λ e. r .0 .1 (inl e)), ne-eqb _ _ (λ e. r .0 .0 .1 (inr e)), ne-eqb _ _ (λ e. r .0 .1 (inr e)), ne-eqb _ _ (r .1))
+
+pub register-spec : {M : Type 1} → statement M
+register-spec =
+    tie.close
+    (tie.spec
+    (λ c κs. search needs)
+    (λ c κs. search needs)
+    (λ c κs. search needs)
+    (λ c κs. search needs)
+    (λ c κs. search needs)
+    (λ c κs. search needs)
+    (λ c κs. search needs)
+    returns
+    returns-2
+    returns-3
+    returns-4
+    returns-5
+    returns-6
+    returns-7
+    returns-8)

@@ -1,0 +1,10 @@
+-- `machine::outputs::nibble` meets its contract: each return has the test that led there. Assumes nothing.
+use borrow.Author.Needs.{needs}
+use Rattle.machine.proofs.outputs.nibble.Statement.{statement}
+use Rattle.machine.proofs.outputs.nibble.Tie as tie
+
+returns : tie.Need-returns
+returns c = rw (c .before .if1 .taken) (c .outputs .ensures)
+
+pub nibble-spec : {M : Type 1} → statement M
+nibble-spec = tie.close (tie.spec (λ c κs. search needs) returns (λ c. search needs))

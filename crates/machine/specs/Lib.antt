@@ -1,0 +1,6 @@
+pub mod Record
+pub mod Outputs
+pub mod Registers
+pub mod Acts
+pub mod Sound
+pub mod Kept

@@ -1,0 +1,88 @@
+-- The machine's record: fresh, fit, and its parts by name (document 01, "Replies and refusal numbers" and "Registers").
+use Prim.Native.Nat.{ℕ}
+use mathlib.Core.Bool.{Bool, false, not, cond, _&&_, _||_}
+use mathlib.Core.List.{List, [], _∷_}
+use lib.Dec.{eqb, ltb, leb}
+use lib.ListN.{getD}
+use Rattle.bits.specs.Straps.{MOST-STRAPS}
+use Rattle.bay.specs.Record.{noBay, emptyBay, bayFit}
+use Rattle.bay.specs.declared.Bay.{Bay}
+use Rattle.machine.specs.declared.Machine.{Machine}
+use Rattle.machine.specs.declared.Shared.{Shared}
+
+-- ---- the paper's numbers
+
+-- The phase is 0-199; a flashing lamp is lit while it is below 100.
+abbrev pub PHASES : ℕ
+PHASES = 200
+
+abbrev pub LIT : ℕ
+LIT = 100
+
+-- The bay count that closes bay 1, and the largest.
+abbrev pub ONE-BAY : ℕ
+ONE-BAY = 1
+
+abbrev pub MOST-BAYS : ℕ
+MOST-BAYS = 3
+
+abbrev pub MOST-LOCK-TIME : ℕ
+MOST-LOCK-TIME = 3
+
+-- ---- bays by number
+
+-- Bay 0, or else bay 1.
+abbrev pub bay0 : List Bay → Bay
+bay0 bs = getD bs 0 noBay
+
+abbrev pub bay1 : List Bay → Bay
+bay1 bs = getD bs 1 noBay
+
+unfoldable pub bayIn : List Bay → ℕ → Bay
+bayIn bs i = cond (eqb i 0) (bay0 bs) (bay1 bs)
+
+abbrev pub bayAt : Machine → ℕ → Bay
+bayAt m i = bayIn (m .bays) i
+
+-- The bays with this one as bay 0, or else as bay 1.
+unfoldable pub placed : ℕ → Bay → List Bay → List Bay
+placed i b bs = cond (eqb i 0) (b ∷ bay1 bs ∷ []) (bay0 bs ∷ b ∷ [])
+
+-- While the stored count is 1, bay 1 is closed. Counts 0, 2, 3 close nothing.
+unfoldable pub openBy : ℕ → ℕ → Bool
+openBy count i = eqb i 0 || not (eqb count ONE-BAY)
+
+abbrev pub isOpen : Machine → ℕ → Bool
+isOpen m i = openBy (m .shared .«bay_count») i
+
+-- ---- what acts change
+
+-- The same machine with these registers, this phase and these bays.
+abbrev pub become : Shared → ℕ → List Bay → Machine → Machine
+become shared phase bays m = record { started = m .started; straps = m .straps; shared = shared; phase = phase; bays = bays }
+
+-- .. with these bays.
+abbrev pub withBays : List Bay → Machine → Machine
+withBays bays m = become (m .shared) (m .phase) bays m
+
+abbrev pub withBay : ℕ → Bay → Machine → Machine
+withBay i b m = withBays (placed i b (m .bays)) m
+
+-- ---- fresh and fit
+
+-- DBCCR and LETR 0, DBCCR unwritten.
+abbrev pub unwritten : Shared
+unwritten = record { «dbccr_written» = false; seclock = false; «bay_count» = 0; «lock_time» = 0 }
+
+-- A fresh state is not started.
+unfoldable pub freshMachine : Machine
+freshMachine = record { started = false; straps = 0; shared = unwritten; phase = 0; bays = emptyBay ∷ emptyBay ∷ [] }
+
+-- A state is fit when phase is 0-199, straps 0-15, lock time 0-3, bay count 0-3, and each bay is fit; any other field may hold any
+-- value of its kind.
+abbrev pub sharedFit : Shared → Bool
+sharedFit r = leb (r .«lock_time») MOST-LOCK-TIME && leb (r .«bay_count») MOST-BAYS
+
+unfoldable pub fits : Machine → Bool
+fits m =
+    ltb (m .phase) PHASES && leb (m .straps) MOST-STRAPS && sharedFit (m .shared) && bayFit (bayAt m 0) && bayFit (bayAt m 1)

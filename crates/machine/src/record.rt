@@ -1,0 +1,80 @@
+// The machine's record: fresh, fit, and its bays by number.
+ghost use mathlib.Core.Path.{_≡_};
+ghost use Rattle.machine.specs.Record.{unwritten, freshMachine, fits, sharedFit, bayIn, placed, openBy};
+use crate::Machine;
+use crate::Shared;
+use bay::Bay;
+use bits::straps;
+
+impl Machine {
+    // A machine before its first RESET.
+    pub fn fresh() -> Machine
+        ensures { λ r. ⌜ r ≡ freshMachine ⌝ }
+    {
+        Machine {
+            started: false,
+            straps: 0,
+            shared: Shared::unwritten(),
+            phase: 0,
+            bays: [Bay::empty(), Bay::empty()],
+        }
+    }
+
+    // Whether each number of the record is one that the rules can make.
+    pub fn fit(self) -> bool
+        ensures { λ r. ⌜ r ≡ fits self ⌝ }
+    {
+        let bays = self.bays;
+        (self.phase < Machine::PHASES)
+            & (self.straps <= straps::MOST)
+            & self.shared.fit()
+            & bays[0].fit()
+            & bays[1].fit()
+    }
+}
+
+impl Shared {
+    // As a RESET leaves them.
+    pub(crate) fn unwritten() -> Shared
+        ensures { λ r. ⌜ r ≡ unwritten ⌝ }
+    {
+        Shared {
+            dbccr_written: false,
+            seclock: false,
+            bay_count: 0,
+            lock_time: 0,
+        }
+    }
+
+    fn fit(self) -> bool
+        ensures { λ r. ⌜ r ≡ sharedFit self ⌝ }
+    {
+        (self.lock_time <= Shared::MOST_LOCK_TIME) & (self.bay_count <= Shared::MOST_BAYS)
+    }
+}
+
+// Bay 0, or else bay 1.
+pub(crate) fn bay_in(bays: [Bay; 2], i: u8) -> Bay
+    ensures { λ r. ⌜ r ≡ bayIn bays i ⌝ }
+{
+    if i == 0 { bays[0] } else { bays[1] }
+}
+
+// The bays with another bay 0, or else with another bay 1.
+pub(crate) fn place(bays: [Bay; 2], i: u8, bay: Bay) -> [Bay; 2]
+    ensures { λ r. ⌜ r ≡ placed i bay bays ⌝ }
+{
+    if i == 0 {
+        let second = bays[1];
+        return [bay, second];
+    }
+    let first = bays[0];
+    [first, bay]
+}
+
+// Bay 0 is always open, bay 1 unless the stored count is 1.
+pub(crate) fn is_open(bay_count: u8, i: u8) -> bool
+    ensures { λ r. ⌜ r ≡ openBy «bay_count» i ⌝ }
+{
+    (i == 0) | !(bay_count == Shared::ONE_BAY)
+}

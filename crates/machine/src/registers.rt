@@ -1,0 +1,173 @@
+// The register map (document 01, "Registers"): what each of the 256 addresses reads, and what a write there does.
+ghost use mathlib.Core.Path.{_≡_};
+ghost use mathlib.Core.Bool.{cond};
+ghost use lib.Dec.{eqb};
+ghost use Prim.Native.Nat.{_/_, _%_};
+ghost use Rattle.bay.specs.Record.{emptyBay};
+ghost use Rattle.bay.specs.Registers.{bstrOf, bcerOf};
+ghost use Rattle.machine.specs.Record.{ONE-BAY};
+ghost use Rattle.machine.specs.Registers.{reading, register, dbccrOf, pulseTicks, dbccrWrite, letrWrite, bstrWrite, bcerWrite, written};
+use crate::Machine;
+use crate::Shared;
+use crate::record::bay_in;
+use crate::record::is_open;
+use crate::record::place;
+use bay::Bay;
+use bay::Control;
+use bits::has;
+use bits::put;
+use bits::straps::lock_mode;
+
+// How many ticks a lock time stands for.
+fn pulse_ticks(lock_time: u8) -> u8
+    ensures { λ r. ⌜ r ≡ pulseTicks «lock_time» ⌝ }
+{
+    match lock_time {
+        0 => 12,
+        1 => 50,
+        2 => 100,
+        _ => 200,
+    }
+}
+
+// Bay 1 after DBCCR stored a count.
+fn closed_by(count: u8, bay: Bay) -> Bay
+    ensures { λ r. ⌜ r ≡ cond (eqb count ONE-BAY) emptyBay bay ⌝ }
+{
+    if count == Shared::ONE_BAY {
+        Bay::empty()
+    } else {
+        bay
+    }
+}
+
+// The bay of a bay's register: bit 3 of its address.
+fn bay_of(address: u8) -> u8
+    ensures { λ r. ⌜ r ≡ address / 8 % 2 ⌝ }
+{
+    address / 8 % 2
+}
+
+// BSTR of a bay as it reads; 0 of a closed one.
+fn bstr(open: bool, bay: Bay) -> u8
+    ensures { λ r. ⌜ r ≡ cond «open» (bstrOf bay) 0 ⌝ }
+{
+    if open { bay.bstr() } else { 0 }
+}
+
+// BCER, likewise.
+fn bcer(open: bool, bay: Bay) -> u8
+    ensures { λ r. ⌜ r ≡ cond «open» (bcerOf bay) 0 ⌝ }
+{
+    if open { bay.bcer() } else { 0 }
+}
+
+impl Shared {
+    // DBCCR as it reads: bit 4 SECLOCK, bits 1-0 bay count.
+    fn dbccr(self) -> u8
+        ensures { λ r. ⌜ r ≡ dbccrOf self ⌝ }
+    {
+        self.bay_count % 4 + put(self.seclock, 16)
+    }
+}
+
+impl Machine {
+    fn register(self, address: u8) -> u8
+        ensures { λ r. ⌜ r ≡ register self address ⌝ }
+    {
+        let bays = self.bays;
+        let i = bay_of(address);
+        let open = is_open(self.shared.bay_count, i);
+        match address {
+            Machine::VENDOR_LOW => 0x55,
+            Machine::VENDOR_HIGH => 0x10,
+            Machine::REVISION => 0x01,
+            Machine::DBCCR => self.shared.dbccr(),
+            Machine::BSTR_0 | Machine::BSTR_1 => bstr(open, bay_in(bays, i)),
+            Machine::BCER_0 | Machine::BCER_1 => bcer(open, bay_in(bays, i)),
+            Machine::LETR => self.shared.lock_time % 4,
+            _ => 0,
+        }
+    }
+
+    // What an address reads: the answer to a whole read.
+    pub fn reading(self, address: u8) -> u8
+        ensures { λ r. ⌜ r ≡ reading self address ⌝ }
+    {
+        if self.started {
+            self.register(address)
+        } else {
+            0
+        }
+    }
+
+    // Only the first write after a RESET counts; count 1 closes bay 1 and makes its record empty.
+    fn with_dbccr(mut self, value: u8) -> Machine
+        ensures { λ r. ⌜ r ≡ dbccrWrite value self ⌝ }
+    {
+        if self.shared.dbccr_written {
+            return self;
+        }
+        let bays = self.bays;
+        let count = value % 4;
+        let first = bays[0];
+        let second = closed_by(count, bays[1]);
+        let pair = [first, second];
+        let shared = Shared {
+            dbccr_written: true,
+            seclock: has(value, 16),
+            bay_count: count,
+            lock_time: self.shared.lock_time,
+        };
+        self.shared = shared;
+        self.bays = pair;
+        self
+    }
+
+    fn with_letr(mut self, value: u8) -> Machine
+        ensures { λ r. ⌜ r ≡ letrWrite value self ⌝ }
+    {
+        let time = value % 4;
+        self.shared.lock_time = time;
+        self
+    }
+
+    fn with_bstr(mut self, i: u8, value: u8) -> Machine
+        ensures { λ r. ⌜ r ≡ bstrWrite i value self ⌝ }
+    {
+        if !is_open(self.shared.bay_count, i) {
+            return self;
+        }
+        let bays = self.bays;
+        let pair = place(bays, i, bay_in(bays, i).with_bstr(value));
+        self.bays = pair;
+        self
+    }
+
+    fn with_bcer(mut self, i: u8, value: u8) -> Machine
+        ensures { λ r. ⌜ r ≡ bcerWrite i value self ⌝ }
+    {
+        if !is_open(self.shared.bay_count, i) {
+            return self;
+        }
+        let bays = self.bays;
+        let ticks = pulse_ticks(self.shared.lock_time);
+        let bay = bay_in(bays, i).controlled(Control::of(value), lock_mode(self.straps), ticks);
+        let pair = place(bays, i, bay);
+        self.bays = pair;
+        self
+    }
+
+    // A whole write.
+    pub(crate) fn write(self, address: u8, value: u8) -> Machine
+        ensures { λ r. ⌜ r ≡ written address value self ⌝ }
+    {
+        match address {
+            Machine::DBCCR => self.with_dbccr(value),
+            Machine::BSTR_0 | Machine::BSTR_1 => self.with_bstr(bay_of(address), value),
+            Machine::BCER_0 | Machine::BCER_1 => self.with_bcer(bay_of(address), value),
+            Machine::LETR => self.with_letr(value),
+            _ => self,
+        }
+    }
+}
