@@ -1,114 +1,175 @@
 -- Demand 3. Take any list of event words from a fresh controller and drop the refused ones. Let a plain machine, which knows no
--- bytes, do each whole command at once at its deciding event. After every event all 256 register readings and all nine outputs agree
--- with it, and each byte the host reads is what that machine read at the deciding event. A command broken off counts for nothing.
--- The machine and the commands are those of specs/; a list's every beginning is a list, so what is said of its end is said after
--- every event. Assumes nothing.
-use Prim.Native.Nat.{ℕ, _*_}
-use mathlib.Core.Path.{_≡_, refl, ap, sym, _∙_}
-use mathlib.Core.Bool.{false}
+-- bytes, do each whole command at once at its deciding event, with pin samples, ticks and resets in their places. After every event
+-- all 256 register readings and all nine outputs agree with it, and each byte the host reads is what that machine read at the
+-- deciding event. A command broken off counts for nothing.
+-- The machine is that of crate machine; whole commands, the acts of a list of events and the answers are those of specs/. A list's
+-- every beginning is a list, so what is said of its end is said after every event. Assumes nothing.
+use Prim.Native.Nat.{ℕ, _*_, _<_}
+use mathlib.Core.Path.{_≡_, ap, sym, _∙_}
+use mathlib.Core.Bool.{Bool, true, false}
 use mathlib.Core.List.{List, [], _∷_, _++_}
-use lib.ListN.{length, drop}
+use lib.ListN.{length, getD, take, drop}
 use denote.Ref.{RefT, now}
+use Rattle.event.specs.declared.Event.{Event}
+use Rattle.event.specs.declared.Event.the-variants.{Take}
+use Rattle.bus.specs.declared.Reply.the-variants.{Driven}
+use Rattle.machine.specs.Record.{freshMachine, fits}
+use Rattle.machine.specs.Outputs.{outputs}
+use Rattle.machine.specs.Registers.{reading}
+use Rattle.machine.specs.declared.Act.the-variants as act
+use Rattle.machine.proofs.Fit.{fresh-fit, fits-kept}
 use Rattle.dock.specs.Record.{freshController}
-use Rattle.dock.specs.Outputs.{outputsOf}
-use Rattle.dock.specs.Registers.{readingOf}
+use Rattle.dock.specs.Step.{stepOf, toldReading, toldOutputs}
 use Rattle.dock.specs.Run.{after, answersTo}
 use Rattle.dock.specs.declared.Controller.{Controller}
-use Rattle.dock.specs.declared.Answer.{Answer}
 use Rattle.dock.specs.declared.Stepped.{Stepped}
-use Rattle.dock.proofs.Fit.{fresh-fit}
+use Rattle.dock.specs.declared.Told.{Told}
+use Rattle.dock.specs.declared.Told.the-variants.{Value}
+use Rattle.dock.proofs.Kept.{run-keeps}
+use Rattle.dock.proofs.Run.{after-append}
 use Rattle.dock.proofs.Controller.fresh.Reads as fresh-call
 use Rattle.dock.proofs.Controller.step.Reads as step-call
-use Rattle.batch.specs.Record.{recordsOf}
-use Rattle.batch.specs.Batch.{outcomeOf, batchOf, bufferAfter}
+use Rattle.dock.proofs.Controller.reading.Reads as reading-call
+use Rattle.dock.proofs.Controller.outputs.Reads as outputs-call
+use Rattle.batch.specs.Record.{recordOf}
+use Rattle.batch.specs.Batch.{outcomeOf}
+use Rattle.batch.specs.Outcome.{outcomeCount}
 use Rattle.batch.specs.declared.Batched.{Batched}
 use Rattle.batch.specs.declared.Outcome.the-variants.{Done}
+use Rattle.batch.proofs.Theorems.{Alone, alone-or-batched}
 use Rattle.batch.proofs.batch.Reads as batch-call
-use Rattle.demand.specs.Plain.{Plain, freshPlain, reading, outputs}
-use Rattle.demand.specs.Commands.{Bus, decidesWrite}
-use Rattle.demand.specs.Follow.{Follow, freshFollow, straps, with-event, onBus, follow, repliesTo}
-use Rattle.demand.specs.Words.{accepted, repliesIn}
-use Rattle.demand.proofs.Apart.{reading-apart, outputs-apart}
-use Rattle.demand.proofs.Commands.{Stands}
-use Rattle.demand.proofs.Follows.{Follows, words-follow}
+use Rattle.demand.specs.Acts.{silent, lineAfter, decided, PassedOver}
+use Rattle.demand.specs.Words.{accepted}
+use Rattle.demand.specs.Plain.{machineAfter, replyTo, plainAnswer}
+use Rattle.demand.specs.Broken.{BrokenOff, strike}
+use Rattle.demand.proofs.Follows.{Beside, fresh-beside, words-beside, word-answer}
+use Rattle.demand.proofs.Driven.{driven}
+use Rattle.demand.proofs.Broken.{none-open, words-same}
 
--- All 256 register readings and all nine outputs agree.
-pub record Agrees (s : Controller) (p : Plain) : Type 0 where
-  pub readings : (a : ℕ) → readingOf s a ≡ reading p a
-  pub nine-outputs : outputsOf s ≡ outputs p
+-- ---- the theorem
 
--- The plain machine after a list of words, the refused ones dropped.
-abbrev pub machineAfter : List ℕ → Plain
-machineAfter ws = follow freshFollow (accepted false ws) .machine
+-- The controller after words from a fresh one, and the plain machine after the acts of the accepted events.
+pub record Agrees (ws : List ℕ) : Type 0 where
+  -- The machine inside is the plain machine ..
+  pub machine : after freshController ws .machine ≡ machineAfter (accepted false ws)
+  -- .. so that all 256 readings and the nine outputs agree ..
+  pub readings : (a : ℕ) → toldReading (after freshController ws) a ≡ Value (reading (machineAfter (accepted false ws)) a)
+  pub nine-outputs : toldOutputs (after freshController ws) ≡ Value (outputs (machineAfter (accepted false ws)))
+  -- .. and the answer to any next word, its refusal, reply, byte and outputs, is the plain machine's.
+  pub answers : (w : ℕ) → stepOf (after freshController ws) w .answer ≡ plainAnswer ws w
 
-fresh-follows : (ws : List ℕ) → Follows freshController [] 0 ws
-unfolding Stands freshController
-fresh-follows ws = words-follow ws freshController [] 0 fresh-fit refl
+reached-fit : (ws : List ℕ) → fits (after freshController ws .machine) ≡ true
+unfolding freshController
+reached-fit ws = run-keeps (λ m. fits m ≡ true) fits-kept freshController ws fresh-fit
 
--- The theorem.
-pub after-every-event : (ws : List ℕ) → Agrees (after freshController ws) (machineAfter ws)
-unfolding freshFollow freshPlain freshController
+reached-beside : (ws : List ℕ) → Beside (after freshController ws) (accepted false ws)
+unfolding freshController freshMachine
+reached-beside ws = words-beside ws freshController [] fresh-beside fresh-fit
+
+pub after-every-event : (ws : List ℕ) → Agrees ws
+unfolding toldReading toldOutputs plainAnswer
 after-every-event ws =
-    let l = fresh-follows ws .lands in
-    let same = ap (λ (f : Follow). f .machine) (l .there) in
+    let b = reached-beside ws in
+    let f = reached-fit ws in
     record {
-      readings = λ a. sym (ap (λ p. reading p a) same ∙ reading-apart (after freshController ws) a);
-      nine-outputs = sym (ap outputs same ∙ outputs-apart (after freshController ws));
+      machine = b .machine;
+      readings = λ a. rw (f, b .machine);
+      nine-outputs = rw (f, b .machine);
+      answers = word-answer (after freshController ws) (accepted false ws) b f;
     }
 
-pub each-reply : (ws : List ℕ) → repliesIn (answersTo freshController ws) ≡ repliesTo freshFollow (accepted false ws)
-unfolding freshFollow freshPlain freshController
-each-reply ws = fresh-follows ws .replies
+-- ---- a byte driven is what the plain machine read at the deciding event
 
--- A command broken off leaves no trace: no bus event changes the plain machine but the STOP that decides a whole write.
-pub broken-off : (f : Follow) (e : Bus) → decidesWrite (straps f) (with-event f e) ≡ false → onBus f e .machine ≡ f .machine
-unfolding onBus
-broken-off f e d = rw d
+-- An event e decides a whole read of r, PINS and TICK are passed over, and the TAKE comes.
+pub read-at-the-deciding-event :
+    (xs ys : List Event) (e : Event) (r : ℕ) (ack : Bool) → decided (lineAfter silent xs) e ≡ act.Read r ∷ [] → PassedOver ys
+    → replyTo (xs ++ (e ∷ ys)) (Take ack) ≡ Driven (reading (machineAfter xs) r)
+read-at-the-deciding-event = driven
 
--- ---- it reaches the code: the single call
+-- ---- a command broken off counts for nothing
+
+-- With no command open after the words xs, the words cs are a command broken off. Strike its bus events, and every later state and
+-- answer is the same.
+pub record CountsForNothing (xs cs : List ℕ) : Type 0 where
+  pub states : (ys : List ℕ) → after freshController (xs ++ (cs ++ ys)) ≡ after freshController (xs ++ (strike cs ++ ys))
+  pub answers : (ys : List ℕ) → answersTo (after freshController (xs ++ cs)) ys ≡ answersTo (after freshController (xs ++ strike cs)) ys
+
+pub broken-off :
+    (xs cs : List ℕ) → lineAfter silent (accepted false xs) .since ≡ []
+    → BrokenOff (lineAfter silent (accepted false xs) .straps) (accepted (machineAfter (accepted false xs) .started) cs)
+    → CountsForNothing xs cs
+broken-off xs cs o k =
+    record {
+      states = λ ys. parts cs ys ∙ ap (λ s. after s ys) same ∙ sym (parts (strike cs) ys);
+      answers = λ ys. ap (λ s. answersTo s ys) (after-append freshController xs cs ∙ same ∙ sym (after-append freshController xs (strike cs)));
+    }
+  where
+    s : Controller
+    s = after freshController xs
+
+    b : Beside s (accepted false xs)
+    b = reached-beside xs
+
+    open-since : b .since ≡ []
+    open-since = sym (ap (λ l. l .since) (b .line)) ∙ o
+
+    same : after s cs ≡ after s (strike cs)
+    same = words-same s cs (reached-fit xs) (none-open _ _ _ (rw open-since at (b .stands))) (rw (b .line, ← b .machine) at k)
+
+    parts : (zs ys : List ℕ) → after freshController (xs ++ (zs ++ ys)) ≡ after (after s zs) ys
+    parts zs ys = after-append freshController xs (zs ++ ys) ∙ after-append s zs ys
+
+-- ---- it reaches the code: the single calls
 
 -- Single calls one after the other, each of which answered as its contract says.
-pub data Called : Controller → List ℕ → List Answer → Controller → Type 0 where
-  none : {s : Controller} → Called s [] [] s
-  call :
-      {s t : Controller} {w : ℕ} {ws : List ℕ} {l : List Answer} (r : Stepped) → step-call.Post tt (s, (w, tt)) r (s, (w, tt))
-      → Called (r .controller) ws l t → Called s (w ∷ ws) (r .answer ∷ l) t
+pub data Called : List ℕ → Controller → Type 0 where
+  fresh : (s : Controller) → fresh-call.Post tt tt s tt → Called [] s
+  step :
+      {ws : List ℕ} {s : Controller} (w : ℕ) (r : Stepped) → Called ws s → step-call.Post tt (s, (w, tt)) r (s, (w, tt))
+      → Called (ws ++ (w ∷ [])) (r .controller)
 
-called-is : {s t : Controller} {ws : List ℕ} {l : List Answer} → Called s ws l t → (t ≡ after s ws) × (l ≡ answersTo s ws)
-unfolding after answersTo
-called-is none = (refl, refl)
-called-is (call {ws = ws} r p c) =
-    let more = called-is c in
-    (more .0 ∙ ap (λ (x : Stepped). after (x .controller) ws) p, ap (λ m. r .answer ∷ m) (more .1) ∙ ap (λ (x : Stepped). x .answer ∷ answersTo (x .controller) ws) p)
+-- What the next single calls return, whatever a call returns that meets its contract.
+pub record Single (ws : List ℕ) (s : Controller) : Type 0 where
+  pub machine : s .machine ≡ machineAfter (accepted false ws)
+  pub answers : (w : ℕ) (r : Stepped) → step-call.Post tt (s, (w, tt)) r (s, (w, tt)) → r .answer ≡ plainAnswer ws w
+  pub readings : (a : ℕ) (r : Told) → reading-call.Post tt (s, (a, tt)) r (s, (a, tt)) → r ≡ Value (reading (machineAfter (accepted false ws)) a)
+  pub nine-outputs : (r : Told) → outputs-call.Post tt (s, tt) r (s, tt) → r ≡ Value (outputs (machineAfter (accepted false ws)))
 
-pub compiled-calls :
-    (s t : Controller) (ws : List ℕ) (l : List Answer) → fresh-call.Post tt tt s tt → Called s ws l t
-    → Agrees t (machineAfter ws) × (repliesIn l ≡ repliesTo freshFollow (accepted false ws))
-compiled-calls s t ws l f c =
+called-is : {ws : List ℕ} {s : Controller} → Called ws s → s ≡ after freshController ws
+unfolding after
+called-is (fresh s p) = p
+called-is (step {ws} {s} w r c p) =
+    ap (λ (x : Stepped). x .controller) p ∙ ap (λ t. stepOf t w .controller) (called-is c) ∙ sym (after-append freshController ws (w ∷ []))
+
+pub compiled-calls : {ws : List ℕ} {s : Controller} → Called ws s → Single ws s
+compiled-calls {ws} {s} c =
     let is = called-is c in
-    (rw (is .0, f) (after-every-event ws), rw (is .1, f) (each-reply ws))
+    let a = after-every-event ws in
+    record {
+      machine = rw is (a .machine);
+      answers = λ w r p. ap (λ (x : Stepped). x .answer) p ∙ rw is (a .answers w);
+      readings = λ x r p. p ∙ rw is (a .readings x);
+      nine-outputs = λ r p. p ∙ rw is (a .nine-outputs);
+    }
 
 -- ---- and the batch
 
--- A batch from a fresh controller that is accepted: its state agrees, and its records are those of answers with these replies.
+-- A batch from a fresh controller that is accepted: the state, the count, every byte of every record, and the bytes past the last.
 pub record Batch (ws buffer : List ℕ) (r : Batched) (left : List ℕ) : Type 0 where
-  pub agrees : Agrees (r .controller) (machineAfter ws)
-  pub answers : List Answer
-  pub records : left ≡ recordsOf answers ++ drop (4 * length ws) buffer
-  pub replies : repliesIn answers ≡ repliesTo freshFollow (accepted false ws)
+  pub machine : r .controller .machine ≡ machineAfter (accepted false ws)
+  pub count : outcomeCount (r .outcome) ≡ length ws
+  pub records : (i : ℕ) → i < length ws → take 4 (drop (4 * i) left) ≡ recordOf (plainAnswer (take i ws) (getD ws i 0))
+  pub past : drop (4 * length ws) left ≡ drop (4 * length ws) buffer
 
 pub compiled-batch :
     (κs : _) (s : Controller) (words records left : RefT (List ℕ)) (r : Batched) (n : ℕ)
     → fresh-call.Post tt tt s tt → outcomeOf s (length (now words)) (length (now records)) ≡ Done n
     → batch-call.Post κs (s, (words, (records, tt))) r (s, (words, (left, tt))) → Batch (now words) (now records) r (now left)
-unfolding batchOf bufferAfter
 compiled-batch κs s words records left r n f e p =
+    let b : Alone s (now words) (now records) r (now left) = rw (p .0, p .1) (alone-or-batched s (now words) (now records) n e) in
     record {
-      agrees = rw state (after-every-event (now words));
-      answers = answersTo freshController (now words);
-      records = p .1 ∙ rw (e, f);
-      replies = each-reply (now words);
+      machine = ap (λ (c : Controller). c .machine) (b .state) ∙ rw f (after-every-event (now words) .machine);
+      count = b .count;
+      records = λ i l. b .records i l ∙ ap recordOf (rw f (after-every-event (take i (now words)) .answers (getD (now words) i 0)));
+      past = b .past;
     }
-  where
-    state : r .controller ≡ after freshController (now words)
-    state = ap (λ (x : Batched). x .controller) (p .0) ∙ rw (e, f)

@@ -3,141 +3,131 @@
 use Prim.Native.Nat.{ℕ}
 use mathlib.Core.Path.{_≡_, refl, ap, sym, _∙_}
 use mathlib.Core.Bool.{Bool, true, false}
-use mathlib.Core.List.{List, [], _∷_}
+use mathlib.Core.List.{List, [], _∷_, _++_, append-assoc, append-nil}
 use Rattle.event.specs.Words.{unpacked}
 use Rattle.event.specs.declared.Event.{Event}
-use Rattle.event.specs.declared.Event.the-variants.{Start, Stop, Byte, Take, Pins, Tick, Reset, Timeout}
 use Rattle.event.specs.declared.Unpacked.{Unpacked}
 use Rattle.event.specs.declared.Unpacked.the-variants.{Accepted, StrayBit as NoEvent}
 use Rattle.event.proofs.Straps.{accepted-straps}
-use Rattle.dock.specs.Record.{fits}
-use Rattle.dock.specs.Events.{resetTo, pinsTo, tickTo, withProgress, startTo, stopTo, byteTo, takeTo, actedOn}
-use Rattle.dock.specs.Step.{takes, stepOf}
-use Rattle.dock.specs.Run.{after, answersTo}
+use Rattle.machine.specs.Record.{freshMachine, fits}
+use Rattle.machine.specs.Acts.{doesAll}
+use Rattle.dock.specs.Record.{freshController}
+use Rattle.dock.specs.Events.{turnOf, next}
+use Rattle.dock.specs.Step.{takes, stepFit, stepOf}
+use Rattle.dock.specs.Run.{after}
 use Rattle.dock.specs.declared.Controller.{Controller}
-use Rattle.dock.proofs.Kept.{acted-started}
+use Rattle.dock.proofs.Kept.{taken-started}
 use Rattle.dock.proofs.Laws.{step-fit}
-use Rattle.demand.specs.Plain.{reset}
 use Rattle.demand.specs.Commands.{Bus}
-use Rattle.demand.specs.Follow.{next, replyTo, follow, repliesTo}
-use Rattle.demand.specs.Words.{accepted, reply, repliesIn}
-use Rattle.demand.proofs.Apart.{sample-apart, tick-apart}
-use Rattle.demand.proofs.Commands.{Stands, beside, Lands, start-lands, stop-lands, stop-reply, take-lands, take-reply, byte-lands, byte-reply}
+use Rattle.demand.specs.Acts.{silent, hears, decided, lineAfter, actsOf}
+use Rattle.demand.specs.Words.{accepted}
+use Rattle.demand.specs.Plain.{machineAfter, lastRead, readBy, replyBy, replyTo, toWord}
+use Rattle.demand.proofs.Lists.{line-append, acts-append, does-append, reads-append}
+use Rattle.demand.proofs.Commands.{Stands, beside, Lands, event-lands}
+
+-- A controller beside the events that it has taken: its machine has done their acts, and its command stands where the line has come
+-- to.
+pub record Beside (s : Controller) (past : List Event) : Type 0 where
+  pub since : List Bus
+  pub machine : s .machine ≡ machineAfter past
+  pub line : lineAfter silent past ≡ beside (s .machine) since
+  pub stands : Stands (s .machine .straps) (s .progress) since (readBy past)
 
 -- ---- one event
 
-module _ (s : Controller) (xs : List Bus) (v : ℕ) (h : Stands (s .straps) (s .progress) xs v) where
-  pub event-lands : (e : Event) → Lands (next (beside s xs v) e) (actedOn s e .controller)
-  unfolding next actedOn startTo stopTo byteTo takeTo reset resetTo pinsTo tickTo withProgress Stands
-  event-lands Start = start-lands s xs v (s .progress) h
-  event-lands Stop = stop-lands s xs v (s .progress) h
-  event-lands (Byte b) = byte-lands s xs v b (s .progress) h
-  event-lands (Take ack) = take-lands s xs v (s .progress) h
-  event-lands (Pins levels) =
-      record { since = xs; held = v; there = ap (λ m. record { machine = m; open-since = xs; value = v }) (sample-apart levels s); stands = h }
-  event-lands Tick = record { since = xs; held = v; there = ap (λ m. record { machine = m; open-since = xs; value = v }) (tick-apart s); stands = h }
-  event-lands (Reset straps levels) = record { since = []; held = v; there = refl; stands = refl }
-  event-lands Timeout = record { since = []; held = v; there = refl; stands = refl }
+module _ (s : Controller) (past : List Event) (h : Beside s past) (e : Event) where
+  lands : Lands s (h .since) (readBy past) e
+  lands = event-lands (s .machine) (h .since) (readBy past) (s .progress) (h .stands) e
 
-  pub event-reply : (e : Event) → replyTo (beside s xs v) e ≡ actedOn s e .reply
-  unfolding replyTo actedOn startTo stopTo byteTo takeTo
-  event-reply Start = refl
-  event-reply Stop = stop-reply s xs v (s .progress)
-  event-reply (Byte b) = byte-reply s xs v b (s .progress) h
-  event-reply (Take ack) = take-reply s xs v (s .progress) h
-  event-reply (Pins levels) = refl
-  event-reply Tick = refl
-  event-reply (Reset straps levels) = refl
-  event-reply Timeout = refl
+  -- What the event decides, after those before it.
+  now-acts : actsOf (lineAfter silent past) (e ∷ []) ≡ decided (beside (s .machine) (h .since)) e
+  unfolding actsOf
+  now-acts = append-nil _ ∙ ap (λ l. decided l e) (h .line)
+
+  all-acts : actsOf silent (past ++ (e ∷ [])) ≡ actsOf silent past ++ decided (beside (s .machine) (h .since)) e
+  all-acts = acts-append silent past (e ∷ []) ∙ ap (λ k. actsOf silent past ++ k) now-acts
+
+  pub next-machine : next s e .machine ≡ machineAfter (past ++ (e ∷ []))
+  unfolding machineAfter
+  next-machine =
+      lands .does-acts ∙ ap (doesAll (decided (beside (s .machine) (h .since)) e)) (h .machine)
+      ∙ sym (ap (λ k. doesAll k freshMachine) all-acts ∙ does-append (actsOf silent past) _ freshMachine)
+
+  next-read : readBy (past ++ (e ∷ [])) ≡ lastRead (readBy past) (decided (beside (s .machine) (h .since)) e) (s .machine)
+  unfolding readBy machineAfter
+  next-read =
+      ap (λ k. lastRead 0 k freshMachine) all-acts ∙ reads-append 0 (actsOf silent past) _ freshMachine
+      ∙ ap (lastRead (readBy past) (decided (beside (s .machine) (h .since)) e)) (sym (h .machine))
+
+  pub next-beside : Beside (next s e) (past ++ (e ∷ []))
+  unfolding lineAfter
+  next-beside =
+      record {
+        since = lands .since;
+        machine = next-machine;
+        line = line-append silent past (e ∷ []) ∙ ap (λ l. hears l e) (h .line) ∙ lands .line;
+        stands = rw next-read (lands .stands);
+      }
+
+  pub next-reply : turnOf s e .reply ≡ replyTo past e
+  unfolding replyTo
+  next-reply = lands .replies ∙ ap (λ l. replyBy l (readBy past) e) (sym (h .line))
 
 -- ---- one word
 
-module _ (s : Controller) (w : ℕ) (ws : List ℕ) (f : fits s ≡ true) where
-  -- A word that is refused leaves no trace.
-  record Traceless : Type 0 where
-    state : after s (w ∷ ws) ≡ after s ws
-    replies : repliesIn (answersTo s (w ∷ ws)) ≡ repliesIn (answersTo s ws)
-    events : accepted (s .started) (w ∷ ws) ≡ accepted (s .started) ws
+-- The answer to a word is the plain machine's, and a word that is refused leaves no trace.
+pub word-answer : (s : Controller) (past : List Event) → Beside s past → fits (s .machine) ≡ true → (w : ℕ) → stepOf s w .answer ≡ toWord past (unpacked w)
+unfolding stepOf
+word-answer s past h f w = rw f (go (unpacked w))
+  where
+    by-test : (e : Event) (t : Bool) → takes (s .machine .started) e ≡ t → stepFit s (Accepted e) .answer ≡ toWord past (Accepted e)
+    by-test e true k = rw (k, ← h .machine, k, next-reply s past h e, next-machine s past h e)
+    by-test e false k = rw (k, ← h .machine, k)
 
-  stray : unpacked w ≡ NoEvent → Traceless
-  unfolding after answersTo repliesIn accepted stepOf
-  stray p = record { state = rw (f, p); replies = rw (f, p); events = rw p }
-
-  early : (e : Event) → unpacked w ≡ Accepted e → takes (s .started) e ≡ false → Traceless
-  unfolding after answersTo repliesIn accepted stepOf
-  early e p k = record { state = rw (f, p, k); replies = rw (f, p, k); events = rw (p, k) }
-
-  -- A word that is accepted is its event.
-  record Taken (e : Event) : Type 0 where
-    state : after s (w ∷ ws) ≡ after (actedOn s e .controller) ws
-    replies : repliesIn (answersTo s (w ∷ ws)) ≡ actedOn s e .reply ∷ repliesIn (answersTo (actedOn s e .controller) ws)
-    events : accepted (s .started) (w ∷ ws) ≡ e ∷ accepted true ws
-    fit : fits (actedOn s e .controller) ≡ true
-
-  taken : (e : Event) → unpacked w ≡ Accepted e → takes (s .started) e ≡ true → Taken e
-  unfolding after answersTo repliesIn accepted stepOf
-  taken e p k = record { state = rw (f, p, k); replies = rw (f, p, k); events = rw (p, k); fit = rw (f, p, k) at (step-fit s w f) }
+    go : (u : Unpacked) → stepFit s u .answer ≡ toWord past u
+    go NoEvent = rw (h .machine)
+    go (Accepted e) = by-test e (takes (s .machine .started) e) refl
 
 -- ---- a list of words
 
-pub record Follows (s : Controller) (xs : List Bus) (v : ℕ) (ws : List ℕ) : Type 0 where
-  pub lands : Lands (follow (beside s xs v) (accepted (s .started) ws)) (after s ws)
-  pub replies : repliesIn (answersTo s ws) ≡ repliesTo (beside s xs v) (accepted (s .started) ws)
+-- A controller after events that it takes.
+unfoldable pub run : Controller → List Event → Controller
+run s [] = s
+run s (e ∷ es) = run (next s e) es
 
-without : (s : Controller) (xs : List Bus) (v w : ℕ) (ws : List ℕ) (f : fits s ≡ true) → Traceless s w ws f → Follows s xs v ws → Follows s xs v (w ∷ ws)
-without s xs v w ws f t r = record { lands = rw (t .state, t .events) (r .lands); replies = rw (t .replies, t .events) (r .replies) }
+run-beside : (es : List Event) (s : Controller) (past : List Event) → Beside s past → Beside (run s es) (past ++ es)
+unfolding run
+run-beside [] s past h = rw append-nil h
+run-beside (e ∷ es) s past h = rw (← append-assoc past (e ∷ []) es) (run-beside es (next s e) (past ++ (e ∷ [])) (next-beside s past h e))
 
-module _ (s : Controller) (xs : List Bus) (v w : ℕ) (ws : List ℕ) (f : fits s ≡ true) (h : Stands (s .straps) (s .progress) xs v) where
-  with-event : (e : Event) → unpacked w ≡ Accepted e → takes (s .started) e ≡ true
-      → ((xs′ : List Bus) (v′ : ℕ) → Stands (actedOn s e .controller .straps) (actedOn s e .controller .progress) xs′ v′ → Follows (actedOn s e .controller) xs′ v′ ws)
-      → Follows s xs v (w ∷ ws)
-  unfolding follow repliesTo
-  with-event e p k further =
-      record {
-        lands = rw (t .state, along) (r .lands);
-        replies = t .replies ∙ ap (λ m. actedOn s e .reply ∷ m) (r .replies) ∙ sym heard;
-      }
-    where
-      s′ : Controller
-      s′ = actedOn s e .controller
+-- The events accepted of a list of words are what the controller takes.
+Runs : List ℕ → Controller → Type 0
+Runs ws s = after s ws ≡ run s (accepted (s .machine .started) ws)
 
-      t : Taken s w ws f e
-      t = taken s w ws f e p k
-
-      l : Lands (next (beside s xs v) e) s′
-      l = event-lands s xs v h e
-
-      begun : s′ .started ≡ true
-      begun = acted-started s e (accepted-straps w e p) k
-
-      r : Follows s′ (l .since) (l .held) ws
-      r = further (l .since) (l .held) (l .stands)
-
-      along : follow (beside s xs v) (accepted (s .started) (w ∷ ws)) ≡ follow (beside s′ (l .since) (l .held)) (accepted (s′ .started) ws)
-      along =
-          ap (follow (beside s xs v)) (t .events) ∙ ap (λ g. follow g (accepted true ws)) (l .there)
-          ∙ ap (λ b. follow (beside s′ (l .since) (l .held)) (accepted b ws)) (sym begun)
-
-      heard :
-          repliesTo (beside s xs v) (accepted (s .started) (w ∷ ws))
-          ≡ actedOn s e .reply ∷ repliesTo (beside s′ (l .since) (l .held)) (accepted (s′ .started) ws)
-      heard =
-          ap (repliesTo (beside s xs v)) (t .events) ∙ ap (λ x. x ∷ repliesTo (next (beside s xs v) e) (accepted true ws)) (event-reply s xs v h e)
-          ∙ ap (λ g. actedOn s e .reply ∷ repliesTo g (accepted true ws)) (l .there)
-          ∙ ap (λ b. actedOn s e .reply ∷ repliesTo (beside s′ (l .since) (l .held)) (accepted b ws)) (sym begun)
-
-pub words-follow : (ws : List ℕ) (s : Controller) (xs : List Bus) (v : ℕ) → fits s ≡ true → Stands (s .straps) (s .progress) xs v → Follows s xs v ws
-unfolding follow repliesTo after answersTo repliesIn accepted
-words-follow [] s xs v f h = record { lands = record { since = xs; held = v; there = refl; stands = h }; replies = refl }
-words-follow (w ∷ ws) s xs v f h = by-word (unpacked w) refl (words-follow ws)
+word-run :
+    (w : ℕ) (ws : List ℕ) (s : Controller) → fits (s .machine) ≡ true → ((t : Controller) → fits (t .machine) ≡ true → Runs ws t)
+    → (u : Unpacked) → unpacked w ≡ u → Runs (w ∷ ws) s
+unfolding Runs after run accepted stepOf
+word-run w ws s f further NoEvent p = rw (f, p) (further s f)
+word-run w ws s f further (Accepted e) p = by-test (takes (s .machine .started) e) refl
   where
-    by-word :
-        (u : Unpacked) → unpacked w ≡ u
-        → ((s : Controller) (xs : List Bus) (v : ℕ) → fits s ≡ true → Stands (s .straps) (s .progress) xs v → Follows s xs v ws)
-        → Follows s xs v (w ∷ ws)
-    by-word NoEvent p further = without s xs v w ws f (stray s w ws f p) (further s xs v f h)
-    by-word (Accepted e) p further = by-test (takes (s .started) e) refl
-      where
-        by-test : (t : Bool) → takes (s .started) e ≡ t → Follows s xs v (w ∷ ws)
-        by-test true k = with-event s xs v w ws f h e p k (λ xs′ v′ g. further (actedOn s e .controller) xs′ v′ (taken s w ws f e p k .fit) g)
-        by-test false k = without s xs v w ws f (early s w ws f e p k) (further s xs v f h)
+    by-test : (t : Bool) → takes (s .machine .started) e ≡ t → after s (w ∷ ws) ≡ run s (accepted (s .machine .started) (w ∷ ws))
+    by-test true k =
+        rw (f, p, k)
+        (further (next s e) (rw (f, p, k) at (step-fit s w f)) ∙ ap (λ b. run (next s e) (accepted b ws)) (taken-started s e (accepted-straps w e p) k))
+    by-test false k = rw (f, p, k) (further s f)
+
+pub words-run : (ws : List ℕ) (s : Controller) → fits (s .machine) ≡ true → after s ws ≡ run s (accepted (s .machine .started) ws)
+unfolding Runs after run accepted
+words-run [] s f = refl
+words-run (w ∷ ws) s f = word-run w ws s f (words-run ws) (unpacked w) refl
+
+pub words-beside :
+    (ws : List ℕ) (s : Controller) (past : List Event) → Beside s past → fits (s .machine) ≡ true
+    → Beside (after s ws) (past ++ accepted (s .machine .started) ws)
+words-beside ws s past h f = rw (words-run ws s f) (run-beside (accepted (s .machine .started) ws) s past h)
+
+-- From a fresh controller.
+pub fresh-beside : Beside freshController []
+unfolding freshController freshMachine silent lineAfter actsOf machineAfter doesAll readBy lastRead Stands
+fresh-beside = record { since = []; machine = refl; line = refl; stands = refl }

@@ -1,96 +1,135 @@
 -- Whole commands (document 01, "Bus commands"), described by the bus events since the START that opened the command.
 use Prim.Native.Nat.{ℕ}
-use mathlib.Core.Bool.{Bool, true, false, _&&_, _||_}
-use mathlib.Core.List.{List, [], _∷_}
+use mathlib.Core.Bool.{Bool, true, false, cond, _&&_, _||_}
+use mathlib.Core.List.{List, [], _∷_, _++_}
 use lib.Dec.{eqb}
-use lib.ListN.{length, getD}
+use lib.ListN.{getD}
 use Rattle.bus.specs.Progress.{ownWrite, ownRead}
+use Rattle.machine.specs.declared.Act.{Act}
+use Rattle.machine.specs.declared.Act.the-variants.{Write, Read}
 
--- Bus events are START, STOP, BYTE and TAKE.
+-- Bus events are START, STOP, BYTE and TAKE, which the host ACKs or not.
 pub data Bus : Type 0 where
-  START STOP TAKE : Bus
+  START STOP : Bus
   BYTE : ℕ → Bus
+  TAKE : Bool → Bus
 
--- What a form has at a place.
-pub data Slot : Type 0 where
-  start own-write-byte register-byte data-byte stop own-read-byte take : Slot
+-- ---- what a form has at a place
 
--- Two commands exist.
-abbrev pub writeForm : List Slot
-writeForm = start ∷ own-write-byte ∷ register-byte ∷ data-byte ∷ stop ∷ []
+abbrev pub Slot : Type 0
+Slot = Bus → Bool
 
-abbrev pub readForm : List Slot
-readForm = start ∷ own-write-byte ∷ register-byte ∷ start ∷ own-read-byte ∷ take ∷ []
+abbrev pub start : Slot
+start START = true
+start STOP = false
+start (BYTE b) = false
+start (TAKE ack) = false
 
--- A bus event is what a form has at a place, for the controller with these straps. A register byte or a data byte is any byte.
-abbrev pub isByte : ℕ → Bus → Bool
-isByte n START = false
-isByte n STOP = false
-isByte n TAKE = false
-isByte n (BYTE b) = eqb b n
+abbrev pub stop : Slot
+stop START = false
+stop STOP = true
+stop (BYTE b) = false
+stop (TAKE ack) = false
 
-abbrev pub isAnyByte : Bus → Bool
-isAnyByte START = false
-isAnyByte STOP = false
-isAnyByte TAKE = false
-isAnyByte (BYTE b) = true
+-- A certain byte; and a register byte or a data byte, which is any.
+abbrev pub byte-is : ℕ → Slot
+byte-is n START = false
+byte-is n STOP = false
+byte-is n (BYTE b) = eqb b n
+byte-is n (TAKE ack) = false
 
-abbrev pub isStart : Bus → Bool
-isStart START = true
-isStart STOP = false
-isStart TAKE = false
-isStart (BYTE b) = false
+abbrev pub any-byte : Slot
+any-byte START = false
+any-byte STOP = false
+any-byte (BYTE b) = true
+any-byte (TAKE ack) = false
 
-abbrev pub isStop : Bus → Bool
-isStop START = false
-isStop STOP = true
-isStop TAKE = false
-isStop (BYTE b) = false
+-- A TAKE, ACKed or not.
+abbrev pub take : Slot
+take START = false
+take STOP = false
+take (BYTE b) = false
+take (TAKE ack) = true
 
-abbrev pub isTake : Bus → Bool
-isTake START = false
-isTake STOP = false
-isTake TAKE = true
-isTake (BYTE b) = false
+-- ---- the two forms, for the controller with these straps
 
-abbrev pub at : ℕ → Slot → Bus → Bool
-at straps start e = isStart e
-at straps own-write-byte e = isByte (ownWrite straps) e
-at straps register-byte e = isAnyByte e
-at straps data-byte e = isAnyByte e
-at straps stop e = isStop e
-at straps own-read-byte e = isByte (ownRead straps) e
-at straps take e = isTake e
+-- The slots up to the deciding event, those that follow it, and the act that it decides, by the bytes so far.
+pub record Form : Type 0 where
+  pub to-decide : List Slot
+  pub to-close : List Slot
+  pub act : List ℕ → Act
 
--- Bus events begin an instance of a form: each is the form's next one.
-abbrev pub begins : ℕ → List Slot → List Bus → Bool
-begins straps form [] = true
-begins straps [] (e ∷ es) = false
-begins straps (s ∷ form) (e ∷ es) = at straps s e && begins straps form es
+-- The own write byte is the first byte of either form, the register byte the second, the data byte the third.
+abbrev pub register : List ℕ → ℕ
+register bytes = getD bytes 1 0
 
--- They begin an instance of either.
+abbrev pub value : List ℕ → ℕ
+value bytes = getD bytes 2 0
+
+-- Write: START, own write byte, register byte, data byte, STOP. Decided at the STOP.
+abbrev pub writeForm : ℕ → Form
+writeForm straps =
+    record {
+      to-decide = start ∷ byte-is (ownWrite straps) ∷ any-byte ∷ any-byte ∷ stop ∷ [];
+      to-close = [];
+      act = λ bytes. Write (register bytes) (value bytes);
+    }
+
+-- Read: START, own write byte, register byte, START, own read byte, TAKE. Decided at the own read byte.
+abbrev pub readForm : ℕ → Form
+readForm straps =
+    record {
+      to-decide = start ∷ byte-is (ownWrite straps) ∷ any-byte ∷ start ∷ byte-is (ownRead straps) ∷ [];
+      to-close = take ∷ [];
+      act = λ bytes. Read (register bytes);
+    }
+
+abbrev pub forms : ℕ → List Form
+forms straps = writeForm straps ∷ readForm straps ∷ []
+
+-- ---- bus events against a form
+
+-- Each is the next one of these slots ..
+abbrev pub begins : List Slot → List Bus → Bool
+begins slots [] = true
+begins [] (e ∷ es) = false
+begins (slot ∷ slots) (e ∷ es) = slot e && begins slots es
+
+-- .. up to the last slot.
+abbrev pub fills : List Slot → List Bus → Bool
+fills [] [] = true
+fills [] (e ∷ es) = false
+fills (slot ∷ slots) [] = false
+fills (slot ∷ slots) (e ∷ es) = slot e && fills slots es
+
+abbrev pub whole : Form → List Slot
+whole f = f .to-decide ++ f .to-close
+
+abbrev pub bytesIn : List Bus → List ℕ
+bytesIn [] = []
+bytesIn (START ∷ es) = bytesIn es
+bytesIn (STOP ∷ es) = bytesIn es
+bytesIn (BYTE b ∷ es) = b ∷ bytesIn es
+bytesIn (TAKE ack ∷ es) = bytesIn es
+
+-- ---- .. and against either
+
+abbrev any : List Form → (Form → Bool) → Bool
+any [] test = false
+any (f ∷ fs) test = test f || any fs test
+
+-- The command goes on: they begin one of the forms.
 unfoldable pub goesOn : ℕ → List Bus → Bool
-goesOn straps es = begins straps writeForm es || begins straps readForm es
+goesOn straps es = any (forms straps) (λ f. begins (whole f) es)
 
--- A write is decided at the STOP, a read at the own read byte, its fifth event; its TAKE is the sixth and last.
-unfoldable pub decidesWrite : ℕ → List Bus → Bool
-decidesWrite straps es = begins straps writeForm es && eqb (length es) 5
+-- The command is complete: they are all of one.
+unfoldable pub completes : ℕ → List Bus → Bool
+completes straps es = any (forms straps) (λ f. fills (whole f) es)
 
-unfoldable pub decidesRead : ℕ → List Bus → Bool
-decidesRead straps es = begins straps readForm es && eqb (length es) 5
+-- What the last of them decides: the act of a form that is filled up to its deciding event, or nothing.
+abbrev collect : List Form → List Bus → List Act
+collect [] es = []
+collect (f ∷ fs) es = cond (fills (f .to-decide) es) (f .act (bytesIn es) ∷ []) [] ++ collect fs es
 
-unfoldable pub endsRead : ℕ → List Bus → Bool
-endsRead straps es = begins straps readForm es && eqb (length es) 6
-
--- The register byte is the third event, the data byte the fourth.
-abbrev pub byteIn : Bus → ℕ
-byteIn START = 0
-byteIn STOP = 0
-byteIn TAKE = 0
-byteIn (BYTE b) = b
-
-unfoldable pub registerIn : List Bus → ℕ
-registerIn es = byteIn (getD es 2 STOP)
-
-unfoldable pub dataIn : List Bus → ℕ
-dataIn es = byteIn (getD es 3 STOP)
+unfoldable pub decides : ℕ → List Bus → List Act
+decides straps es = collect (forms straps) es

@@ -1,5 +1,5 @@
-pub mod Plain
 pub mod Commands
-pub mod Follow
+pub mod Acts
 pub mod Words
-pub mod Examples
+pub mod Plain
+pub mod Broken

@@ -1,74 +1,71 @@
--- A plain machine: a controller that knows no commands and no bytes. It does whole acts, by the rule book's definitions of registers
--- and bays, and nothing of the bus.
+-- The plain machine, which knows no bytes, beside a list of events: it does their acts (demand 3).
 use Prim.Native.Nat.{ℕ}
-use mathlib.Core.Bool.{Bool}
-use mathlib.Core.List.{List}
-use Rattle.bay.specs.declared.Bay.{Bay}
-use Rattle.bus.specs.declared.Progress.the-variants.{Idle}
-use Rattle.dock.specs.Record.{freshController}
-use Rattle.dock.specs.Outputs.{outputsOf}
-use Rattle.dock.specs.Registers.{readingOf, written}
-use Rattle.dock.specs.Events.{resetTo, pinsTo, tickTo}
-use Rattle.dock.specs.declared.Controller.{Controller}
+use mathlib.Core.Bool.{false, cond}
+use mathlib.Core.List.{List, [], _∷_, _++_}
+use Rattle.event.specs.Words.{unpacked}
+use Rattle.event.specs.declared.Event.{Event}
+use Rattle.event.specs.declared.Event.the-variants.{Start, Stop, Byte, Take, Pins, Tick, Reset, Timeout}
+use Rattle.event.specs.declared.Unpacked.{Unpacked}
+use Rattle.event.specs.declared.Unpacked.the-variants.{Accepted, StrayBit as NoEvent}
+use Rattle.bus.specs.declared.Reply.{Reply}
+use Rattle.bus.specs.declared.Reply.the-variants.{Nothing, Ack, NoAck, Driven, NotDriven}
+use Rattle.machine.specs.Record.{freshMachine}
+use Rattle.machine.specs.Outputs.{outputs}
+use Rattle.machine.specs.Registers.{reading}
+use Rattle.machine.specs.Acts.{does, doesAll}
+use Rattle.machine.specs.declared.Machine.{Machine}
+use Rattle.machine.specs.declared.Act.{Act}
+use Rattle.machine.specs.declared.Act.the-variants as act
+use Rattle.dock.specs.Step.{takes}
+use Rattle.dock.specs.declared.Answer.{Answer}
+use Rattle.dock.specs.declared.Answer.the-variants.{Done, StrayBit, NotStarted}
+use Rattle.demand.specs.Commands.{BYTE, TAKE, goesOn, completes}
+use Rattle.demand.specs.Acts.{Line, silent, with-event, lineAfter, actsOf}
+use Rattle.demand.specs.Words.{accepted}
 
--- What a controller keeps, but for the command in progress.
-pub record Plain : Type 0 where
-  pub started : Bool
-  pub straps : ℕ
-  pub dbccr-written : Bool
-  pub seclock : Bool
-  pub bay-count : ℕ
-  pub lock-time : ℕ
-  pub phase : ℕ
-  pub bays : List Bay
+-- The machine after events, from a fresh one: it has done each whole command at once at its deciding event.
+unfoldable pub machineAfter : List Event → Machine
+machineAfter es = doesAll (actsOf silent es) freshMachine
 
--- A controller with its command forgotten, and a plain machine as the controller with no command open.
-abbrev pub forget : Controller → Plain
-forget s =
-    record {
-      started = s .started;
-      straps = s .straps;
-      dbccr-written = s .«dbccr_written»;
-      seclock = s .seclock;
-      bay-count = s .«bay_count»;
-      lock-time = s .«lock_time»;
-      phase = s .phase;
-      bays = s .bays;
-    }
+-- What the last whole read among acts read when it was done (0: there was none yet).
+abbrev pub answered : ℕ → Act → Machine → ℕ
+answered v (act.Write a b) m = v
+answered v (act.Read a) m = reading m a
+answered v (act.Pins levels) m = v
+answered v act.Tick m = v
+answered v (act.Reset straps levels) m = v
 
-abbrev pub idle : Plain → Controller
-idle p =
-    record {
-      started = p .started;
-      straps = p .straps;
-      «dbccr_written» = p .dbccr-written;
-      seclock = p .seclock;
-      «bay_count» = p .bay-count;
-      «lock_time» = p .lock-time;
-      phase = p .phase;
-      progress = Idle;
-      bays = p .bays;
-    }
+unfoldable pub lastRead : ℕ → List Act → Machine → ℕ
+lastRead v [] m = v
+lastRead v (a ∷ l) m = lastRead (answered v a m) l (does a m)
 
-unfoldable pub freshPlain : Plain
-freshPlain = forget freshController
+unfoldable pub readBy : List Event → ℕ
+readBy es = lastRead 0 (actsOf silent es) freshMachine
 
--- Its acts: a whole write, a pin sample, a tick, a reset.
-unfoldable pub write : ℕ → ℕ → Plain → Plain
-write a v p = forget (written a v (idle p))
+-- A BYTE that continues a command is ACKed, any other has reply 2. The TAKE that ends a read gives what was read at its deciding
+-- event, any other has reply 4.
+unfoldable pub replyBy : Line → ℕ → Event → Reply
+replyBy l v Start = Nothing
+replyBy l v Stop = Nothing
+replyBy l v (Byte b) = cond (goesOn (l .straps) (with-event l (BYTE b))) Ack NoAck
+replyBy l v (Take ack) = cond (completes (l .straps) (with-event l (TAKE ack))) (Driven v) NotDriven
+replyBy l v (Pins levels) = Nothing
+replyBy l v Tick = Nothing
+replyBy l v (Reset straps levels) = Nothing
+replyBy l v Timeout = Nothing
 
-unfoldable pub sample : ℕ → Plain → Plain
-sample levels p = forget (pinsTo levels (idle p))
+-- The reply to an event that comes after others.
+unfoldable pub replyTo : List Event → Event → Reply
+replyTo past e = replyBy (lineAfter silent past) (readBy past) e
 
-unfoldable pub tick : Plain → Plain
-tick p = forget (tickTo (idle p))
+-- The whole answer to a word that comes after accepted events: a word that is refused with 2 has the machine's outputs.
+abbrev pub toEvent : List Event → Event → Answer
+toEvent past e = Done (replyTo past e) (outputs (machineAfter (past ++ (e ∷ []))))
 
-unfoldable pub reset : ℕ → ℕ → Plain
-reset straps levels = forget (resetTo straps levels)
+abbrev pub toWord : List Event → Unpacked → Answer
+toWord past NoEvent = StrayBit (outputs (machineAfter past))
+toWord past (Accepted e) = cond (takes (machineAfter past .started) e) (toEvent past e) NotStarted
 
--- A whole read, and the nine outputs.
-unfoldable pub reading : Plain → ℕ → ℕ
-reading p a = readingOf (idle p) a
-
-unfoldable pub outputs : Plain → ℕ
-outputs p = outputsOf (idle p)
+-- The answer to a word that comes after words, from a fresh controller.
+unfoldable pub plainAnswer : List ℕ → ℕ → Answer
+plainAnswer ws w = toWord (accepted false ws) (unpacked w)
