@@ -5,3 +5,4 @@ pub mod Follows
 pub mod Driven
 pub mod Broken
 pub mod Demand3
+pub mod Trace
