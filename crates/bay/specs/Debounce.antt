@@ -37,9 +37,12 @@ restart level accepted n = cond (Bool·beq level accepted) 0 n
 -- PINS stores levels (n1394, nUSB, nREMREQ, nSL).
 unfoldable pub sampledBay : ℕ → Bay → Bay
 sampledBay levels b =
-    withInputs (bit 3 levels ∷ bit 2 levels ∷ bit 1 levels ∷ []) (b .accepted)
+    withInputs
+    (bit 3 levels ∷ bit 2 levels ∷ bit 1 levels ∷ [])
+    (b .accepted)
     (restart (bit 3 levels) (acceptedLevel b N1394) (count b N1394)
     ∷ restart (bit 2 levels) (acceptedLevel b NUSB) (count b NUSB)
     ∷ restart (bit 1 levels) (acceptedLevel b NREMREQ) (count b NREMREQ)
     ∷ [])
-    (bit 0 levels) b
+    (bit 0 levels)
+    b

@@ -84,13 +84,21 @@ requestedAfter b press = b .«remreq_sts» || press
 abbrev pub changedAfter : Bay → Bool → Bool → Bool
 changedAfter b change silent = b .devstschg || change && not silent
 
--- A pulse above 0 falls by one.
+-- All of it, with the inputs as accepted and counted; a pulse above 0 falls by one.
 unfoldable pub movedBay : Bay → Input → Input → Input → Bay
 movedBay b n1394 nusb nremreq =
-    withStatus (stateAfter b (leaves b n1394 nusb) (arrives b n1394 nusb) (pressed nremreq)) (requestedAfter b (pressed nremreq))
-    (changedAfter b (changes n1394 nusb) (quiet b n1394 nusb)) (controlAfter (leaves b n1394 nusb) (b .control)) (b .pulse - 1)
-    (withInputs (b .levels) (n1394 .accepted ∷ nusb .accepted ∷ nremreq .accepted ∷ [])
-    (n1394 .count ∷ nusb .count ∷ nremreq .count ∷ []) (b .«n_sl») b)
+    withStatus
+    (stateAfter b (leaves b n1394 nusb) (arrives b n1394 nusb) (pressed nremreq))
+    (requestedAfter b (pressed nremreq))
+    (changedAfter b (changes n1394 nusb) (quiet b n1394 nusb))
+    (controlAfter (leaves b n1394 nusb) (b .control))
+    (b .pulse - 1)
+    (withInputs
+    (b .levels)
+    (n1394 .accepted ∷ nusb .accepted ∷ nremreq .accepted ∷ [])
+    (n1394 .count ∷ nusb .count ∷ nremreq .count ∷ [])
+    (b .«n_sl»)
+    b)
 
 unfoldable pub tickedBay : Bay → Bay
 tickedBay b = movedBay b (input b N1394) (input b NUSB) (input b NREMREQ)

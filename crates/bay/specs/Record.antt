@@ -60,8 +60,9 @@ TICKS = 10
 abbrev pub MOST-PULSE : ℕ
 MOST-PULSE = 200
 
--- ---- a bay in two halves, each changed without the other: what it senses, and how it stands
+-- ---- a bay in two halves, each changed without the other
 
+-- What it senses: levels, accepted levels, counts and nSL.
 abbrev pub withInputs : List Bool → List Bool → List ℕ → Bool → Bay → Bay
 withInputs levels accepted counts nsl b =
     record {
@@ -76,6 +77,7 @@ withInputs levels accepted counts nsl b =
       pulse = b .pulse;
     }
 
+-- How it stands: state, REMREQ_STS, DEVSTSCHG, BCER and pulse.
 abbrev pub withStatus : ℕ → Bool → Bool → Control → ℕ → Bay → Bay
 withStatus state req chg control pulse b =
     record {
@@ -115,15 +117,7 @@ noBay =
       state = 0;
       «remreq_sts» = false;
       devstschg = false;
-      control =
-          record {
-            «lock_ctl» = false;
-            request = 0;
-            «remreq_en» = false;
-            «devstschg_en» = false;
-            «remevtwak_en» = false;
-            «pwr_ctl» = false;
-          };
+      control = lockedControl false;
       pulse = 0;
     }
 

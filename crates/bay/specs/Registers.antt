@@ -70,5 +70,10 @@ pulseWritten c mode ticks b = cond (mode && b .control .«lock_ctl» && not (c .
 -- A write of BCER's fields, in a LOCK_MODE and with LETR's ticks.
 unfoldable pub controlledBay : Control → Bool → ℕ → Bay → Bay
 controlledBay c mode ticks b =
-    withStatus (stateWritten c (present b) b) (b .«remreq_sts») (b .devstschg) (controlWritten c (present b) (b .control))
-    (pulseWritten c mode ticks b) b
+    withStatus
+    (stateWritten c (present b) b)
+    (b .«remreq_sts»)
+    (b .devstschg)
+    (controlWritten c (present b) (b .control))
+    (pulseWritten c mode ticks b)
+    b
