@@ -15,14 +15,14 @@ use Rattle.bay.specs.declared.Bay.{Bay}
 use Rattle.bay.specs.declared.Control.{Control}
 use Rattle.bay.proofs.Taut.{pick}
 
--- The parts of fitness.
+-- The parts of fitness, in the paper's numbers.
 pub record Fits (b : Bay) : Type 0 where
-  pub n1394 : count b N1394 < TICKS
-  pub nusb : count b NUSB < TICKS
-  pub nremreq : count b NREMREQ < TICKS
-  pub in-state : b .state ≤ REMOVAL-ALLOWED
-  pub asked : b .control .request ≤ REMOVAL-ALLOWED
-  pub pulsed : b .pulse ≤ MOST-PULSE
+  pub n1394 : count b N1394 < 10
+  pub nusb : count b NUSB < 10
+  pub nremreq : count b NREMREQ < 10
+  pub in-state : b .state ≤ 4
+  pub asked : b .control .request ≤ 4
+  pub pulsed : b .pulse ≤ 200
 
 pub fit-parts : (b : Bay) → bayFit b ≡ true ↔ Fits b
 unfolding bayFit

@@ -49,8 +49,11 @@ pub none-begins : (s : ℕ) (es : List Bus) → goesOn s es ≡ false → None s
 unfolding goesOn completes decides
 none-begins s es n =
     let both = neither (begins (whole (writeForm s)) es) (begins (whole (readForm s)) es) n in
-    let write = unfilled (whole (writeForm s)) [] es (both .0) in
     record {
-      incomplete = rw (write, unfilled (whole (readForm s)) [] es (both .1));
-      undecided = rw (write, unfilled (readForm s .to-decide) (readForm s .to-close) es (both .1));
+      incomplete = rw (unfilled (whole (writeForm s)) [] es (both .0), unfilled (whole (readForm s)) [] es (both .1));
+      undecided =
+          rw (
+            unfilled (writeForm s .to-decide) (writeForm s .to-close) es (both .0),
+            unfilled (readForm s .to-decide) (readForm s .to-close) es (both .1),
+          );
     }

@@ -22,6 +22,7 @@ fn ended(reply: Reply) -> Turn
     }
 }
 
+// A START only moves the command on, or ends it.
 fn start(progress: Progress) -> Turn
     ensures { λ r. ⌜ r ≡ startAt progress ⌝ }
 {
@@ -39,11 +40,7 @@ fn stop(progress: Progress) -> Turn
     let Progress::Data { register, value } = progress else {
         return ended(Reply::Nothing);
     };
-    Turn {
-        progress: Progress::Idle,
-        deed: Deed::Does(Act::Write { register, value }),
-        reply: Reply::Nothing,
-    }
+    decided(Progress::Idle, Act::Write { register, value })
 }
 
 // A BYTE goes on with the command, decides a read, whose value is the register's reading now, or ends the command.
@@ -75,8 +72,8 @@ fn take(progress: Progress) -> Turn
     ended(Reply::Driven(value))
 }
 
-// What is no bus event has the machine do something and no reply.
-fn passed(progress: Progress, act: Act) -> Turn
+// The machine is to do an act, and there is no reply.
+fn decided(progress: Progress, act: Act) -> Turn
     ensures { λ r. ⌜ r ≡ record { progress = progress; deed = Deed.Does act; reply = Reply.Nothing } ⌝ }
 {
     Turn {
@@ -87,6 +84,7 @@ fn passed(progress: Progress, act: Act) -> Turn
 }
 
 impl Controller {
+    // What an event comes to. PINS and TICK are passed over by an open command; TIMEOUT and RESET end it.
     pub(crate) fn turn(self, event: Event) -> Turn
         ensures { λ r. ⌜ r ≡ turnOf self event ⌝ }
     {
@@ -96,10 +94,10 @@ impl Controller {
             Event::Stop => stop(progress),
             Event::Byte(value) => byte(self.machine, progress, value),
             Event::Take(_) => take(progress),
-            Event::Pins(levels) => passed(progress, Act::Pins(levels)),
-            Event::Tick => passed(progress, Act::Tick),
+            Event::Pins(levels) => decided(progress, Act::Pins(levels)),
+            Event::Tick => decided(progress, Act::Tick),
             Event::Reset { straps, levels } => {
-                passed(Progress::Idle, Act::Reset { straps, levels })
+                decided(Progress::Idle, Act::Reset { straps, levels })
             }
             Event::Timeout => ended(Reply::Nothing),
         }

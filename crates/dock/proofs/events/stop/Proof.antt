@@ -29,7 +29,8 @@ returns c = rw (others _ (found (0 ∷ 1 ∷ 2 ∷ 3 ∷ 5 ∷ 6 ∷ []) _ (c .b
 
 returns-2 : tie.Need-returns-2
 unfolding stopDeed
-returns-2 c = rw (c .before .progress .given .1)
+returns-2 c = rw (c .before .before .progress .given .1) (c .decided .ensures)
 
 pub stop-spec : {M : Type 1} → statement M
-stop-spec = tie.close (tie.spec (λ c. search needs) (λ c κs. search needs) returns returns-2)
+stop-spec =
+    tie.close (tie.spec (λ c. search needs) (λ c κs. search needs) returns (λ c κs. search needs) returns-2)
