@@ -14,11 +14,14 @@ use Rattle.event.proofs.Theorems.{words-refused}
 use Rattle.event.proofs.RoundTrip.{accepted-is-none}
 use Rattle.bay.proofs.Taut.{pick}
 use Rattle.machine.specs.Record.{fits}
-use Rattle.dock.specs.Answers.{refusalOf}
-use Rattle.dock.specs.Step.{takes, stepFit, stepOf}
+use Rattle.machine.specs.Outputs.{outputs}
+use Rattle.dock.specs.Answers.{refusalOf, replyOf, byteOf, outputsOf}
+use Rattle.dock.specs.Step.{takes, refused, stepFit, stepOf}
 use Rattle.dock.specs.Refusals.{IsReset, Exactly}
 use Rattle.dock.specs.declared.Controller.{Controller}
 use Rattle.dock.specs.declared.Stepped.{Stepped}
+use Rattle.dock.specs.declared.Answer.{Answer}
+use Rattle.dock.specs.declared.Answer.the-variants.{Unfit}
 
 -- A refused word leaves the state as it came.
 pub refused-unchanged : (s : Controller) (w : ℕ) → refusalOf (stepOf s w .answer) ≢ 0 → stepOf s w .controller ≡ s
@@ -31,6 +34,55 @@ refused-unchanged s w = pick Unchanged (fits (s .machine)) (λ f. by-word (unpac
     by-word : (u : Unpacked) → Unchanged (stepFit s u)
     by-word NoEvent = λ n. refl
     by-word (Accepted e) = pick Unchanged (takes (s .machine .started) e) (λ t n. absurd (n refl)) (λ t n. refl)
+
+-- The other three numbers of an answer.
+pub record Numbers (a : Answer) (reply byte out : ℕ) : Type 0 where
+  pub reply-is : replyOf a ≡ reply
+  pub byte-is : byteOf a ≡ byte
+  pub outputs-are : outputsOf a ≡ out
+
+-- What comes back with each number: with 1 and 3 all is 0, with 2 the outputs are those of the state, and with 0 those of the next state.
+pub record ComesBack (s : Controller) (x : Stepped) : Type 0 where
+  pub one : refusalOf (x .answer) ≡ 1 → Numbers (x .answer) 0 0 0
+  pub two : refusalOf (x .answer) ≡ 2 → Numbers (x .answer) 0 0 (outputs (s .machine))
+  pub three : refusalOf (x .answer) ≡ 3 → Numbers (x .answer) 0 0 0
+  pub none : refusalOf (x .answer) ≡ 0 → outputsOf (x .answer) ≡ outputs (x .controller .machine)
+
+pub comes-back : (s : Controller) (w : ℕ) → ComesBack s (stepOf s w)
+unfolding stepOf
+comes-back s w = pick (ComesBack s) (fits (s .machine)) (λ f. by-word (unpacked w)) (λ f. refused-1)
+  where
+    refused-1 : ComesBack s (refused s Unfit)
+    refused-1 =
+        record {
+          one = λ n. record { reply-is = refl; byte-is = refl; outputs-are = refl };
+          two = λ n. absurd (omega (arith, n));
+          three = λ n. absurd (omega (arith, n));
+          none = λ n. absurd (omega (arith, n));
+        }
+
+    by-word : (u : Unpacked) → ComesBack s (stepFit s u)
+    by-word NoEvent =
+        record {
+          one = λ n. absurd (omega (arith, n));
+          two = λ n. record { reply-is = refl; byte-is = refl; outputs-are = refl };
+          three = λ n. absurd (omega (arith, n));
+          none = λ n. absurd (omega (arith, n));
+        }
+    by-word (Accepted e) =
+        pick (ComesBack s) (takes (s .machine .started) e)
+        (λ t. record {
+          one = λ n. absurd (omega (arith, n));
+          two = λ n. absurd (omega (arith, n));
+          three = λ n. absurd (omega (arith, n));
+          none = λ n. refl;
+        })
+        (λ t. record {
+          one = λ n. absurd (omega (arith, n));
+          two = λ n. absurd (omega (arith, n));
+          three = λ n. record { reply-is = refl; byte-is = refl; outputs-are = refl };
+          none = λ n. absurd (omega (arith, n));
+        })
 
 -- What is taken: anything once started, and before that a RESET.
 Taken : Bool → Event → Type 0

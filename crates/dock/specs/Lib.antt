@@ -5,3 +5,4 @@ pub mod Step
 pub mod Refusals
 pub mod Run
 pub mod Examples
+pub mod Ours
