@@ -4,7 +4,7 @@ use Prim.Native.Nat.{ℕ}
 use native.Mathlib.Omega.{arith}
 use mathlib.Core.Path.{_≡_, refl, sym, ap, _∙_}
 use mathlib.Core.Logic.{_≢_, _⊎_, inl, inr, ⊎-elim}
-use mathlib.Core.Bool.{Bool, true, false, true≢false, false≢true}
+use mathlib.Core.Bool.{Bool, true, false, cond, true≢false, false≢true}
 use Rattle.event.specs.Words.{unpacked, StrayBitSet}
 use Rattle.event.specs.declared.Event.{Event}
 use Rattle.event.specs.declared.Event.the-variants.{Start, Stop, Byte, Take, Pins, Tick, Reset, Timeout}
@@ -15,13 +15,16 @@ use Rattle.event.proofs.RoundTrip.{accepted-is-none}
 use Rattle.bay.proofs.Taut.{pick}
 use Rattle.machine.specs.Record.{fits}
 use Rattle.machine.specs.Outputs.{outputs}
-use Rattle.dock.specs.Answers.{refusalOf, replyOf, byteOf, outputsOf}
-use Rattle.dock.specs.Step.{takes, refused, stepFit, stepOf}
+use Rattle.machine.specs.Registers.{reading}
+use Rattle.dock.specs.Answers.{refusalOf, replyOf, byteOf, outputsOf, toldRefusal, toldValue}
+use Rattle.dock.specs.Step.{takes, refused, stepFit, stepOf, toldReading, toldOutputs}
 use Rattle.dock.specs.Refusals.{IsReset, Exactly}
 use Rattle.dock.specs.declared.Controller.{Controller}
 use Rattle.dock.specs.declared.Stepped.{Stepped}
 use Rattle.dock.specs.declared.Answer.{Answer}
 use Rattle.dock.specs.declared.Answer.the-variants.{Unfit}
+use Rattle.dock.specs.declared.Told.{Told}
+use Rattle.dock.specs.declared.Told.the-variants.{Value, Unfit as NotFit}
 
 -- A refused word leaves the state as it came.
 pub refused-unchanged : (s : Controller) (w : ℕ) → refusalOf (stepOf s w .answer) ≢ 0 → stepOf s w .controller ≡ s
@@ -179,3 +182,21 @@ module _ (s : Controller) (w : ℕ) where
   pub exactly : Exactly s w (refusalOf (stepOf s w .answer))
   unfolding stepOf
   exactly = pick (λ (x : Stepped). Exactly s w (refusalOf (x .answer))) (fits (s .machine)) (λ f. by-word f (unpacked w) refl) (λ f. unfit f)
+
+-- ---- questions
+
+-- A question about a fit state gives its value with 0; an unfit state is refused with 1 and value 0.
+pub record Answers (s : Controller) (t : Told) (value : ℕ) : Type 0 where
+  pub refused-1 : fits (s .machine) ≡ false → (toldRefusal t ≡ 1) × (toldValue t ≡ 0)
+  pub told : fits (s .machine) ≡ true → (toldRefusal t ≡ 0) × (toldValue t ≡ value)
+
+told-of : (s : Controller) (value : ℕ) → Answers s (cond (fits (s .machine)) (Value value) NotFit) value
+told-of s value = record { refused-1 = λ f. rw f (refl, refl); told = λ f. rw f (refl, refl) }
+
+pub reading-told : (s : Controller) (a : ℕ) → Answers s (toldReading s a) (reading (s .machine) a)
+unfolding toldReading
+reading-told s a = told-of s (reading (s .machine) a)
+
+pub outputs-told : (s : Controller) → Answers s (toldOutputs s) (outputs (s .machine))
+unfolding toldOutputs
+outputs-told s = told-of s (outputs (s .machine))
