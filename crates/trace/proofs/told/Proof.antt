@@ -1,0 +1,26 @@
+-- `trace::told` is safe: what it writes is what `feed` has put at the start of the buffer. Assumes nothing.
+use mathlib.Core.Path.{sym}
+use lib.Seq.{length-take-le}
+use borrow.Author.Needs.{needs}
+use Rattle.trace.specs.Pieces.{fedOf}
+use Rattle.trace.proofs.Written.{written-holds}
+use Rattle.trace.proofs.told.Statement.{statement}
+use Rattle.trace.proofs.told.Tie as tie
+
+array-share-prefix-output : tie.Need-array-share-prefix-output
+unfolding fedOf
+array-share-prefix-output c = rw (c .before .feed .ensures .0, c .before .feed .ensures .1) (written-holds _ _)
+
+slice-aggregate-write-all : tie.Need-slice-aggregate-write-all
+slice-aggregate-write-all c = sym (length-take-le _ _ (array-share-prefix-output (c .before)))
+
+pub told-spec : {M : Type 1} → statement M
+told-spec =
+    tie.close
+    (tie.spec
+    (λ c. search needs)
+    (λ c κs. search needs)
+    array-share-prefix-output
+    slice-aggregate-write-all
+    (λ c κs. search needs)
+    (λ c. search needs))
