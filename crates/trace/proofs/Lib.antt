@@ -2,3 +2,5 @@ pub mod Words
 pub mod Cut
 pub mod Written
 pub mod Loop
+pub mod Theorems
+pub mod Example
