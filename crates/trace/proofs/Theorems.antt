@@ -5,17 +5,20 @@ use Prim.Native.Nat.{ℕ}
 use mathlib.Core.Path.{_≡_, refl, ap, sym, _∙_}
 use mathlib.Core.List.{List, [], _∷_, _++_, append-assoc, append-nil, flatten}
 use lib.ListN.{length, take}
+use lib.IntN.{ℤ}
 use denote.Ref.{RefT, now}
 use Rattle.dock.specs.Record.{freshController}
 use Rattle.trace.specs.Text.{header, wordsIn, loneIn, linesOf, oddFor, textOf}
 use Rattle.trace.specs.Pieces.{written, linesFed, traceFed, fedOf, begun, endingOf}
 use Rattle.trace.specs.declared.pieces.Trace.{Trace}
 use Rattle.trace.specs.declared.pieces.Fed.{Fed}
+use Rattle.trace.specs.declared.reads.Came.{Came}
 use Rattle.trace.proofs.Cut.{held-lone, trace-none, lines-none, trace-append, lines-cut}
 use Rattle.trace.proofs.Written.{written-text}
 use Rattle.trace.proofs.pieces.begin.Reads as begin-call
 use Rattle.trace.proofs.pieces.feed.Reads as feed-call
 use Rattle.trace.proofs.pieces.finish.Reads as finish-call
+use Rattle.trace.proofs.reads.answered.Reads as answered-call
 
 -- ---- calls one after the other, each of which answered as its contract says
 
@@ -110,3 +113,8 @@ pub finish-determined :
     (κs : _) (t : Trace) (output left left′ : RefT (List ℕ)) (n n′ : ℕ) → finish-call.Post κs (t, (output, tt)) n (t, (left, tt))
     → finish-call.Post κs (t, (output, tt)) n′ (t, (left′, tt)) → (n ≡ n′) × (now left ≡ now left′)
 finish-determined κs t output left left′ n n′ p q = (p .0 ∙ sym (q .0), p .1 ∙ sym (q .1))
+
+pub answered-determined :
+    (κs : _) (got : ℤ) (buffer : RefT (List ℕ)) (r r′ : Came) → answered-call.Post κs (got, (buffer, tt)) r (got, (buffer, tt))
+    → answered-call.Post κs (got, (buffer, tt)) r′ (got, (buffer, tt)) → r ≡ r′
+answered-determined κs got buffer r r′ p q = p ∙ sym q
