@@ -3,11 +3,16 @@ use Prim.Native.Nat.{ℕ}
 use mathlib.Core.Path.{_≡_, refl}
 use mathlib.Core.List.{List, [], _∷_, map}
 use borrow.Author.Tests.{ne-eqb}
-use Rattle.script.specs.Lines.{lineOf}
+use Rattle.bytes.specs.Bytes.{indexOf}
+use Rattle.script.specs.Text.{blank, leading, trimmed, first, rest, spelled, spelled64}
+use Rattle.script.specs.Verbs.{name, verbs, verbOf}
+use Rattle.script.specs.Arguments.{digitOf, isOctet, octetOf, wordOf as wordIn, pairOf, countFrom, countOf, ticksOf}
+use Rattle.script.specs.Hands.{only, bayOf, kindOf, pulls, raises, insertLine, handLine}
+use Rattle.script.specs.Lines.{given, resetLine, takeLine, writeLine, orderLine, verbLine, plain, textLine, lineOf}
 use Rattle.script.specs.declared.Order.{Order}
 use Rattle.script.specs.declared.Line.{Line}
 use Rattle.script.specs.declared.Line.the-variants.{Blank, Unknown, Misused, Mishandled, Does}
-use Rattle.script.specs.declared.Order.the-variants.{Event as One, Ticks, Write}
+use Rattle.script.specs.declared.Order.the-variants.{Event as One, Ticks, Write, Address}
 use Rattle.event.specs.Words.{wordOf, strapsOf, packed, packWord, Bytes, unpacked}
 use Rattle.event.specs.declared.Event.{Event}
 use Rattle.event.specs.declared.Event.the-variants.{Pins, Reset}
@@ -19,7 +24,8 @@ use Rattle.dock.specs.Examples.{R, N, w, pins, ticks}
 use Rattle.dock.specs.Run.{after}
 use Rattle.dock.specs.Step.{stepOf}
 use Rattle.bench.specs.Levels.{pulled, raised, givenBy, levelsAfter}
-use Rattle.bench.specs.Orders.{wordFor, wordsOf, sentOf, afterWords, does, heeded}
+use Rattle.bench.specs.Orders.{wordFor, wordsOf, sentOf, afterWords, obeyed, does, heeded}
+use Rattle.bench.specs.Examples.{Example, typedWords, examples}
 use Rattle.bench.specs.declared.Bench.{Bench}
 
 -- What is typed as the paper writes it sends the words of the paper's examples P1 to P12, whatever the levels are.
@@ -33,6 +39,16 @@ pub record AsInThePaper : Type 0 where
 pub as-in-the-paper : AsInThePaper
 unfolding wordsOf packed wordOf strapsOf
 as-in-the-paper = record { R-typed = λ l. refl; N-typed = λ l. refl; w-typed = λ l r v. refl; pins-typed = λ l p. refl; ticks-typed = λ l n. refl }
+
+-- Each of the examples sends the words written there.
+pub examples-hold : map typedWords examples ≡ map (λ (e : Example). e .words) examples
+unfolding examples wordsOf pulled raised packed wordOf strapsOf indexOf lineOf plain textLine verbLine orderLine handLine insertLine pulls raises only bayOf kindOf given resetLine takeLine writeLine octetOf isOctet digitOf wordIn pairOf ticksOf countOf countFrom verbOf verbs name spelled spelled64 trimmed first rest leading blank
+examples-hold = refl
+
+-- After `at 96` a whole write begins with that byte.
+pub at-stays : (b : Bench) (l : ℕ) → wordsOf (obeyed (Address 0x96) b .address) l (Write 0x14 0x04) ≡ 0x0000 ∷ 0x4096 ∷ 0x4014 ∷ 0x4004 ∷ 0x2000 ∷ []
+unfolding wordsOf obeyed packed wordOf strapsOf
+at-stays b l = refl
 
 -- The dock on the bench is one that was given the words, by one single call after the other; the levels don't come into it.
 pub dock-follows : (ws : List ℕ) (b : Bench) → afterWords b ws .controller ≡ after (b .controller) ws

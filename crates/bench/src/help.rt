@@ -39,15 +39,19 @@ fn say_use(verb: Verb) {
 fn say_hand_use(hand: Hand) {
     match hand {
         Hand::Insert => say(
-            b"insert 0 usb    a cartridge goes into bay 0: nUSB goes low; with `1394`, n1394\n",
+            b"insert 0 usb    a cartridge goes into bay 0: nUSB goes low, or n1394 with `1394`\n",
         ),
-        Hand::Remove => say(b"remove 0        it is taken out: n1394 and nUSB go high\n"),
+        Hand::Remove => say(
+            b"remove 0        the cartridge of bay 0 is taken out: n1394 and nUSB go high\n",
+        ),
         Hand::Press => say(b"press 0         the button of bay 0 goes down: nREMREQ goes low\n"),
-        Hand::Release => say(b"release 0       it comes up: nREMREQ goes high\n"),
+        Hand::Release => say(b"release 0       the button of bay 0 comes up: nREMREQ goes high\n"),
         Hand::Secure => say(
             b"secure 0        the security lock of bay 0 is engaged: nSL goes low\n",
         ),
-        Hand::Unsecure => say(b"unsecure 0      it is disengaged: nSL goes high\n"),
+        Hand::Unsecure => say(
+            b"unsecure 0      the security lock of bay 0 is disengaged: nSL goes high\n",
+        ),
     }
 }
 
