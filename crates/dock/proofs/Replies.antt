@@ -1,20 +1,17 @@
--- The replies by number (document 01, "Replies and refusal numbers"): which kind of event has which, and the byte with each. By cases on
--- the command. Assumes nothing.
-use Prim.Native.Nat.{ℕ, _<_}
-use native.Mathlib.Omega.{arith}
+-- The replies by number (document 01, "Replies and refusal numbers"): which kind of event has which. By cases on the command.
+-- Assumes nothing.
+use Prim.Native.Nat.{ℕ}
 use mathlib.Core.Path.{_≡_, refl}
 use mathlib.Core.Logic.{_⊎_, inl, inr}
 use mathlib.Core.Bool.{Bool}
 use Rattle.event.specs.declared.Event.{Event}
 use Rattle.event.specs.declared.Event.the-variants.{Start, Stop, Byte, Take, Pins, Tick, Reset, Timeout}
 use Rattle.bus.specs.Progress.{heard}
-use Rattle.bus.specs.Reply.{replyNumber, replyByte}
+use Rattle.bus.specs.Reply.{replyNumber}
 use Rattle.bus.specs.declared.Progress.{Progress}
 use Rattle.bus.specs.declared.Progress.the-variants.{Idle, Opened, Addressed, Register, Data, Again, Reading}
 use Rattle.bus.specs.declared.Heard.{Heard}
 use Rattle.bus.specs.declared.Heard.the-variants.{On, Read, End}
-use Rattle.bus.specs.declared.Reply.{Reply}
-use Rattle.bus.specs.declared.Reply.the-variants.{Nothing, Ack, NoAck, Driven, NotDriven}
 use Rattle.dock.specs.Events.{byteHeard, byteAt, takeReply, turnOf}
 use Rattle.dock.specs.declared.Controller.{Controller}
 
@@ -59,15 +56,3 @@ replies s =
     to-take (Data r v) = inr refl
     to-take (Again r) = inr refl
     to-take (Reading v) = inl refl
-
--- The byte is 0 except with 3, the value, and 4, 255.
-pub record Bytes (r : Reply) : Type 0 where
-  pub with-0-to-2 : replyNumber r < 3 → replyByte r ≡ 0
-  pub with-4 : replyNumber r ≡ 4 → replyByte r ≡ 255
-
-pub bytes : (r : Reply) → Bytes r
-bytes Nothing = record { with-0-to-2 = λ l. refl; with-4 = λ n. absurd (omega (arith, n)) }
-bytes Ack = record { with-0-to-2 = λ l. refl; with-4 = λ n. absurd (omega (arith, n)) }
-bytes NoAck = record { with-0-to-2 = λ l. refl; with-4 = λ n. absurd (omega (arith, n)) }
-bytes (Driven v) = record { with-0-to-2 = λ l. absurd (omega (arith, l)); with-4 = λ n. absurd (omega (arith, n)) }
-bytes NotDriven = record { with-0-to-2 = λ l. absurd (omega (arith, l)); with-4 = λ n. refl }
