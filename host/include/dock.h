@@ -106,7 +106,9 @@ static inline uint32_t dock_record_bits(const uint8_t *record) {
 }
 static inline uint32_t dock_record_refusal(const uint8_t *record) { return dock_record_bits(record) >> 28; }
 static inline uint32_t dock_record_reply(const uint8_t *record) { return dock_record_bits(record) >> 25 & 7u; }
-static inline uint8_t dock_record_byte(const uint8_t *record) { return (uint8_t)(dock_record_bits(record) >> 17 & 0xFFu); }
+static inline uint8_t dock_record_byte(const uint8_t *record) {
+    return (uint8_t)(dock_record_bits(record) >> 17 & 0xFFu);
+}
 static inline uint16_t dock_record_outputs(const uint8_t *record) {
     return (uint16_t)(dock_record_bits(record) >> 8 & 0x1FFu);
 }

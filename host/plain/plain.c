@@ -312,7 +312,7 @@ static void do_tick(struct dock *dock) {
 /* One event word. The answer is a record's 32 bits: refusal 4, reply 3, byte 8, outputs 9, eight zero bits. */
 static uint32_t step(struct dock *dock, uint16_t word) {
     unsigned kind = word >> 13;
-    uint8_t low = word & 0xFF;
+    uint8_t low = (uint8_t)(word & 0xFF);
     uint32_t refusal = ACCEPTED;
     uint32_t reply = NO_REPLY;
     uint32_t byte = 0;

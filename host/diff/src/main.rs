@@ -17,6 +17,7 @@ use compare::{Mismatch, Question, Room};
 use model::{Controller, Refusal, MOST_WORDS};
 use random::Random;
 use sides::{LIBRARY, MODEL, PLAIN};
+use std::fmt;
 use std::process::ExitCode;
 
 const WORDS: usize = 3_000_000;
@@ -40,6 +41,17 @@ struct Counts {
     outputs: usize,
     packs: usize,
     unpacks: usize,
+}
+
+impl fmt::Display for Counts {
+    fn fmt(&self, f: &mut fmt::Formatter) -> fmt::Result {
+        write!(f, "{} examples, {} lists, {} words, ", self.examples, self.lists, self.words)?;
+        write!(
+            f,
+            "{} readings, {} outputs, {} packs, {} unpacks",
+            self.readings, self.outputs, self.packs, self.unpacks
+        )
+    }
 }
 
 /// A mismatch that ends the run, told in full.
@@ -263,17 +275,6 @@ fn main() -> ExitCode {
         print!("{}", told);
         return ExitCode::FAILURE;
     }
-    let counts = run.counts;
-    println!(
-        "seed {}: {} examples, {} lists, {} words, {} readings, {} outputs, {} packs, {} unpacks compared: 0 mismatches",
-        seed,
-        counts.examples,
-        counts.lists,
-        counts.words,
-        counts.readings,
-        counts.outputs,
-        counts.packs,
-        counts.unpacks
-    );
+    println!("seed {}: {} compared: 0 mismatches", seed, run.counts);
     ExitCode::SUCCESS
 }
