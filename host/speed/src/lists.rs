@@ -1,6 +1,6 @@
 //! The words that are timed. Each list begins with a RESET that finds a USB device in bay 0.
 
-use model::words::{pins, read, write, TICK};
+use paper::words::{pins, read, write, TICK};
 
 const OWN: u8 = 0x90;
 const RESET: u16 = 0xC0BF;
