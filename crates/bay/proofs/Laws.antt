@@ -11,7 +11,7 @@ use borrow.Author.Tests.{lt-ltb, le-leb, lt-leb}
 use Rattle.bits.specs.Bits.{bit, put}
 use Rattle.bay.specs.Record.{N1394, NUSB, NREMREQ, EMPTY, ENABLED, REMOVAL-REQUESTED, REMOVAL-ALLOWED, level, acceptedLevel, count, present}
 use Rattle.bay.specs.Debounce.{differs, sampledBay}
-use Rattle.bay.specs.Moves.{input, leaves, pressed, presentAfter, inUse, stateAfter, movedBay, tickedBay}
+use Rattle.bay.specs.Moves.{input, leaves, pressed, inUse, stateAfter, movedBay, tickedBay}
 use Rattle.bay.specs.Registers.{bstrOf, bcerOf, asks, stateWritten, requestWritten, controlledBay}
 use Rattle.bay.specs.Outputs.{lockPin, green, yellow, bayOutputs}
 use Rattle.bay.specs.Held.{afterTicks, tickedFor}

@@ -4,19 +4,19 @@ use Prim.Native.Nat.{ℕ, zero, suc, _+_, _*_, _/_, _%_, _-_, _<_}
 use native.Mathlib.Omega.{arith}
 use mathlib.Core.Path.{_≡_, refl, sym, _∙_}
 use mathlib.Core.Logic.{_↔_, _⊎_, inl, inr}
-use mathlib.Core.Bool.{Bool, true, false, not, cond, _&&_, _||_, Bool·beq, and-true, and-false, or-true, or-false, and-eq-true-iff}
-use mathlib.Core.List.{List, [], _∷_, map}
+use mathlib.Core.Bool.{Bool, true, false, not, _&&_, _||_, Bool·beq, and-true, and-false, or-true, or-false, and-eq-true-iff}
+use mathlib.Core.List.{[], _∷_, map}
 use lib.Dec.{eqb}
 use lib.ListN.{getD}
-use borrow.Author.Tests.{eqb-true, eqb-false, eq-eqb, ne-eqb}
+use borrow.Author.Tests.{eqb-true, eqb-false, ne-eqb}
 use Rattle.bits.specs.Bits.{bit, put}
-use Rattle.bay.specs.Record.{N1394, NUSB, NREMREQ, level, acceptedLevel, count, present, emptyBay, resetBay}
+use Rattle.bay.specs.Record.{N1394, NUSB, acceptedLevel, count, present, emptyBay, resetBay}
 use Rattle.bay.specs.Moves.{movedBay, tickedBay}
 use Rattle.bay.specs.Registers.{bstrOf, bcerOf, bstrWritten, controlOf, pulseWritten, controlledBay}
 use Rattle.bay.specs.Outputs.{lockPin, green, yellow, bayOutputs, interrupts}
 use Rattle.bay.specs.declared.Bay.{Bay}
 use Rattle.bay.proofs.Laws.{Sensed}
-use Rattle.bay.proofs.Taut.{All, Below, Fun, below, below-taut, taut, same}
+use Rattle.bay.proofs.Taut.{below-taut, taut, same}
 
 -- ---- the bits of a byte
 

@@ -8,7 +8,7 @@ use Rattle.bits.specs.Bits.{bit}
 use Rattle.bay.specs.Record.{acceptedLevel, present}
 use Rattle.bay.specs.Moves.{tickedBay}
 use Rattle.bay.specs.Registers.{controlOf, controlledBay}
-use Rattle.bay.specs.Table.{entry, tickTable, writeTable}
+use Rattle.bay.specs.Table.{tickTable, writeTable}
 use Rattle.bay.specs.declared.Bay.{Bay}
 use Rattle.bay.proofs.Laws.{pressed-sets}
 use Rattle.bay.proofs.Table.{tick-table, write-table}

@@ -10,7 +10,7 @@ use lib.ListN.{getD}
 use lib.Dec.{eqb, ltb, leb}
 use borrow.Author.Tests.{eq-eqb, ne-eqb, eqb-true, eqb-false, not-true}
 use Rattle.bay.specs.Record.{N1394, NUSB, NREMREQ, EMPTY, INSERTED, ENABLED, present, level, acceptedLevel, count, emptyBay, resetBay, bayFit, withStatus}
-use Rattle.bay.specs.Debounce.{debounce, restart, sampledBay}
+use Rattle.bay.specs.Debounce.{debounce, sampledBay}
 use Rattle.bay.specs.Moves.{input, pressed, presentAfter, inUse, stateAfter, movedBay, tickedBay}
 use Rattle.bay.specs.Registers.{bstrWritten, asks, stateWritten, controlledBay}
 use Rattle.bay.specs.Sound.{Sound}

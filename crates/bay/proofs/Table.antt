@@ -13,7 +13,7 @@ use Rattle.bay.specs.Moves.{inUse, stateAfter, movedBay, tickedBay}
 use Rattle.bay.specs.Registers.{controlOf, asks, stateWritten, controlledBay}
 use Rattle.bay.specs.Table.{Table, entry, tickRows, tickTable, writeRows, writeTable}
 use Rattle.bay.specs.declared.Bay.{Bay}
-use Rattle.bay.proofs.Taut.{All, Below, Fun, Holds, below, taut, same}
+use Rattle.bay.proofs.Taut.{All, Below, Fun, below, taut, same}
 use Rattle.bay.proofs.Ticks.{present-after, press-after}
 
 -- An entry that is the test for a state says exactly when that is the state.

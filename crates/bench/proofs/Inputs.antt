@@ -1,5 +1,5 @@
 -- Levels after a change, input by input: one that was named is at its new level, and any other is where it was. Assumes nothing.
-use Prim.Native.Nat.{ℕ, zero, suc, _+_, _-_, _/_, _%_, _^_, _<_}
+use Prim.Native.Nat.{ℕ, zero, suc, _-_, _/_, _%_, _^_, _<_}
 use native.Mathlib.Omega.{arith}
 use mathlib.Core.Path.{_≡_, _∙_}
 use lib.Bits.{bitAnd, bitOr, and-shr, and-mod, and-mask, and-zero-r, or-shr, or-mod, or-zero-r, or-add-and}

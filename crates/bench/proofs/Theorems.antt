@@ -13,18 +13,17 @@ use Rattle.script.specs.declared.Order.{Order}
 use Rattle.script.specs.declared.Line.{Line}
 use Rattle.script.specs.declared.Line.the-variants.{Blank, Unknown, Misused, Mishandled, Does}
 use Rattle.script.specs.declared.Order.the-variants.{Event as One, Ticks, Write, Address}
-use Rattle.event.specs.Words.{wordOf, strapsOf, packed, packWord, Bytes, unpacked}
+use Rattle.event.specs.Words.{wordOf, strapsOf, packed, Bytes}
 use Rattle.event.specs.declared.Event.{Event}
 use Rattle.event.specs.declared.Event.the-variants.{Pins, Reset}
 use Rattle.event.specs.declared.Packed.the-variants.{Word}
-use Rattle.event.specs.declared.Unpacked.the-variants.{Accepted}
 use Rattle.event.proofs.Theorems.{pack-then-unpack}
 use Rattle.dock.specs.Answers.{refusalOf}
 use Rattle.dock.specs.Examples.{R, N, w, pins, ticks}
 use Rattle.dock.specs.Run.{after}
 use Rattle.dock.specs.Step.{stepOf}
 use Rattle.bench.specs.Levels.{pulled, raised, givenBy, levelsAfter}
-use Rattle.bench.specs.Orders.{wordFor, wordsOf, sentOf, afterWords, obeyed, does, heeded}
+use Rattle.bench.specs.Orders.{wordsOf, sentOf, afterWords, obeyed, does, heeded}
 use Rattle.bench.specs.Examples.{Example, typedWords, examples}
 use Rattle.bench.specs.declared.Bench.{Bench}
 

@@ -4,17 +4,16 @@ use Prim.Native.Nat.{ℕ, zero, suc, _+_, _*_, _/_, _%_, _-_, _<_}
 use native.Mathlib.Omega.{arith}
 use mathlib.Core.Path.{_≡_, refl, sym, ap, subst, _∙_}
 use mathlib.Core.Logic.{_≢_}
-use mathlib.Core.Bool.{Bool, true, false, not, cond, _||_, true≢false}
+use mathlib.Core.Bool.{Bool, true, false, cond, _||_, true≢false}
 use mathlib.Core.List.{List, [], _∷_, map}
 use lib.Dec.{eqb}
-use lib.ListN.{getD}
-use borrow.Author.Tests.{eq-eqb, ne-eqb, lt-ltb}
+use borrow.Author.Tests.{eq-eqb, ne-eqb}
 use Rattle.bits.specs.Bits.{bit, put}
 use Rattle.bits.specs.Straps.{lockMode}
 use Rattle.bay.specs.declared.Bay.{Bay}
 use Rattle.bay.specs.Record.{N1394, NUSB, NREMREQ, level, emptyBay}
 use Rattle.bay.proofs.Laws.{Sensed, sampled}
-use Rattle.bay.specs.Registers.{bstrOf, bcerOf, controlOf}
+use Rattle.bay.specs.Registers.{bstrOf, bcerOf}
 use Rattle.bay.proofs.Named.{bcer-pulses, reset-senses}
 use Rattle.machine.specs.Record.{bayAt, bayIn, openBy, isOpen}
 use Rattle.machine.specs.Registers.{Row, find, dbccrOf, bstrAt, bcerAt, registers, register, reading, dbccrStored, dbccrWrite, letrWrite, pulseTicks, bstrWrite, bcerWrite, writes, written}

@@ -28,7 +28,7 @@ pub struct Fed {
 }
 
 // The header, and the trace of a fresh controller.
-pub fn begin(output: &mut [u8]) -> Fed
+pub(crate) fn begin(output: &mut [u8]) -> Fed
     requires { ⌜ 22 ≤ length (now output) ⌝ }
     ensures { λ r. ⌜ r ≡ begun ⌝ }
     ensures { λ _. ⌜ now (output .exit) ≡ written header (now (output .entry)) ⌝ }
@@ -76,7 +76,7 @@ fn hear(trace: Trace, byte: u8, output: &mut [u8]) -> Fed
 }
 
 // A piece of the input. The buffer has room for a line for every two bytes, and for one line more.
-pub fn feed(trace: Trace, input: &[u8], output: &mut [u8]) -> Fed
+pub(crate) fn feed(trace: Trace, input: &[u8], output: &mut [u8]) -> Fed
     requires { ⌜ 8 * length (now input) + 16 ≤ length (now output) ⌝ }
     ensures { λ r. ⌜ r ≡ fedOf trace (now (input .entry)) ⌝ }
     ensures { λ _. ⌜ now (output .exit) ≡ written (linesFed trace (now (input .entry))) (now (output .entry)) ⌝ }
@@ -97,7 +97,7 @@ pub fn feed(trace: Trace, input: &[u8], output: &mut [u8]) -> Fed
 }
 
 // The input has ended: a byte that still waits was a lone last one.
-pub fn finish(trace: Trace, output: &mut [u8]) -> usize
+pub(crate) fn finish(trace: Trace, output: &mut [u8]) -> usize
     requires { ⌜ 4 ≤ length (now output) ⌝ }
     ensures { λ r. ⌜ r ≡ length (endingOf trace) ⌝ }
     ensures { λ _. ⌜ now (output .exit) ≡ written (endingOf trace) (now (output .entry)) ⌝ }
