@@ -1,15 +1,14 @@
 -- The loop over a piece: after i bytes the trace and the text are those of these bytes, and the rest of the buffer is as it came.
 -- Assumes nothing.
-use Prim.Native.Nat.{ℕ, suc, _+_, _-_, _*_, _<_, _≤_}
+use Prim.Native.Nat.{ℕ, _+_, _-_, _*_, _<_, _≤_}
 use native.Mathlib.Omega.{arith}
 use native.Mathlib.Numerals.{add-one}
-use mathlib.Core.Path.{_≡_, refl, ap, _∙_, sym}
+use mathlib.Core.Path.{_≡_, ap, _∙_, sym}
 use mathlib.Core.List.{List, [], _∷_, _++_, append-nil}
 use lib.ListN.{length, getD, take, drop, length-append, length-drop, drop-of-length-le}
 use lib.Seq.{take-suc, take-all, take-length, length-take-le}
 use Rattle.trace.specs.Pieces.{written, linesFed, traceFed, fedOf}
 use Rattle.trace.specs.declared.pieces.Trace.{Trace}
-use Rattle.trace.specs.declared.pieces.Fed.{Fed}
 use Rattle.trace.proofs.Cut.{trace-none, lines-none, trace-append, lines-cut, fed-most}
 use Rattle.trace.proofs.Written.{written-none, written-length, written-after}
 

@@ -8,7 +8,6 @@ use lib.Signed.{ltZ}
 use borrow.Author.Tests.{ltb-true, ltb-false}
 use Rattle.io.specs.Counts.{clamped}
 use Rattle.trace.specs.Reads.{cameOf}
-use Rattle.trace.specs.declared.reads.Came.{Came}
 use Rattle.trace.specs.declared.reads.Came.the-variants.{Bytes, End, Failed}
 
 pub negative : (z : ℤ) (room : ℕ) → ltZ z (pos 0) ≡ true → Failed ≡ cameOf z room

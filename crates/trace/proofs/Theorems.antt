@@ -2,13 +2,13 @@
 -- also inside a word, what they put out, joined, is the text of the whole input; and after each piece every word that is whole by
 -- then has its line. Assumes nothing.
 use Prim.Native.Nat.{ℕ}
-use mathlib.Core.Path.{_≡_, refl, ap, sym, _∙_}
+use mathlib.Core.Path.{_≡_, ap, sym, _∙_}
 use mathlib.Core.List.{List, [], _∷_, _++_, append-assoc, append-nil, flatten}
 use lib.ListN.{length, take}
 use lib.IntN.{ℤ}
 use denote.Ref.{RefT, now}
 use Rattle.dock.specs.Record.{freshController}
-use Rattle.trace.specs.Text.{header, wordsIn, loneIn, linesOf, oddFor, textOf}
+use Rattle.trace.specs.Text.{header, wordsIn, linesOf, textOf}
 use Rattle.trace.specs.Pieces.{written, linesFed, traceFed, fedOf, begun, endingOf}
 use Rattle.trace.specs.declared.pieces.Trace.{Trace}
 use Rattle.trace.specs.declared.pieces.Fed.{Fed}

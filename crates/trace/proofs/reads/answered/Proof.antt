@@ -1,5 +1,4 @@
 -- `trace::reads::answered` meets its contract, by the sign of the read's answer. Assumes nothing.
-use mathlib.Core.Path.{_≡_}
 use mir.Syntax.{w64}
 use mir.ValLaws.{toZ-ofZ}
 use borrow.Author.Needs.{needs}
