@@ -29,13 +29,13 @@ none-heard t input b =
     }
 
 module _ (t₀ : Trace) (input b₀ : List ℕ) (i : ℕ) (t : Trace) (at : ℕ) (b : List ℕ) (h : Heard t₀ input b₀ i t at b) (room : 8 * length input + 16 ≤ length b₀) where
-  -- Before the last byte there is room for a line.
   most : at ≤ 8 * i + 8
   most = omega (arith, h .put, fed-most t₀ (take i input), length-take-le i input (h .within))
 
   pub length-kept : length b ≡ length b₀
   length-kept = ap length (h .buffer) ∙ written-length (linesFed t₀ (take i input)) b₀ (omega (arith, most, h .put, h .within))
 
+  -- While there are bytes left there is room for a line.
   pub line-fits : i < length input → at + 16 ≤ length b
   line-fits l = omega (arith, most, length-kept)
 

@@ -16,7 +16,7 @@ pub words-append : (xs ys : List ℕ) → wordsIn (xs ++ ys) ≡ wordsIn xs ++ w
 unfolding wordsIn loneIn
 words-append [] ys = refl
 words-append (b ∷ []) ys = refl
-words-append (high ∷ (low ∷ xs)) ys = ap (λ l. (high * 256 + low) ∷ l) (words-append xs ys)
+words-append (high ∷ (low ∷ xs)) ys = rw (words-append xs ys)
 
 pub lone-append : (xs ys : List ℕ) → loneIn (xs ++ ys) ≡ loneIn (loneIn xs ++ ys)
 unfolding loneIn
