@@ -4,7 +4,8 @@ use Prim.Native.Nat.{ℕ, zero, suc}
 use native.Mathlib.Omega.{arith}
 use mathlib.Core.Path.{_≡_, refl, ap, _∙_}
 use mathlib.Core.Logic.{_≢_}
-use mathlib.Core.Bool.{Bool}
+use mathlib.Core.Bool.{Bool, false, true≢false}
+use Rattle.event.specs.declared.Event.{Event}
 use Rattle.event.specs.declared.Event.the-variants.{Start, Stop, Byte, Take, Pins, Tick, Reset, Timeout}
 use Rattle.bus.specs.Progress.{heard}
 use Rattle.bus.specs.declared.Progress.{Progress}
@@ -12,15 +13,19 @@ use Rattle.bus.specs.declared.Progress.the-variants.{Idle, Opened, Addressed, R
 use Rattle.bus.specs.declared.Heard.{Heard}
 use Rattle.bus.specs.declared.Heard.the-variants.{On, Read, End}
 use Rattle.bus.specs.declared.Reply.the-variants.{NoAck, Driven}
+use Rattle.machine.specs.Record.{bayAt}
 use Rattle.machine.specs.Registers.{reading}
 use Rattle.machine.specs.Acts.{does}
+use Rattle.machine.specs.declared.Act.the-variants as act
+use Rattle.machine.proofs.Moves.{nothing-else-moves}
+use Rattle.dock.specs.Moves.{stopMoves, eventMoves}
 use Rattle.dock.specs.Events.{stopDeed, byteHeard, byteAt, takeReply, turnOf, done, next}
 use Rattle.dock.specs.declared.Controller.{Controller}
 use Rattle.dock.proofs.Laws.{pins-passed-over, tick-passed-over}
 
 -- ---- nothing is written before the STOP
 
--- START, BYTE, TAKE and TIMEOUT leave the machine, and so does a STOP but after a data byte. So no bus event but that STOP moves a bay.
+-- START, BYTE, TAKE and TIMEOUT leave the machine, and so does a STOP but after a data byte.
 pub record OnlyStopWrites (s : Controller) : Type 0 where
   pub start : next s Start .machine ≡ s .machine
   pub byte : (b : ℕ) → next s (Byte b) .machine ≡ s .machine
@@ -52,6 +57,28 @@ only-stop-writes s =
     after-stop (Data r v) n = absurd (n r v refl)
     after-stop (Again r) n = refl
     after-stop (Reading v) n = refl
+
+-- So no event but these moves a bay.
+pub no-other-event-moves :
+    (s : Controller) (e : Event) (i : ℕ) → eventMoves s i e ≡ false → bayAt (next s e .machine) i .state ≡ bayAt (s .machine) i .state
+unfolding next turnOf stopDeed
+no-other-event-moves s Start i h = refl
+no-other-event-moves s Stop i h = stops (s .progress) h
+  where
+    stops : (p : Progress) → stopMoves (s .machine) i p ≡ false → bayAt (done (stopDeed p) (s .machine)) i .state ≡ bayAt (s .machine) i .state
+    stops Idle k = refl
+    stops Opened k = refl
+    stops Addressed k = refl
+    stops (Register r) k = refl
+    stops (Data r v) k = nothing-else-moves (s .machine) i (act.Write r v) k
+    stops (Again r) k = refl
+    stops (Reading v) k = refl
+no-other-event-moves s (Byte b) i h = ap (λ m. bayAt m i .state) (only-stop-writes s .byte b)
+no-other-event-moves s (Take ack) i h = refl
+no-other-event-moves s (Pins levels) i h = nothing-else-moves (s .machine) i (act.Pins levels) h
+no-other-event-moves s Tick i h = nothing-else-moves (s .machine) i act.Tick h
+no-other-event-moves s (Reset straps levels) i h = absurd (true≢false h)
+no-other-event-moves s Timeout i h = refl
 
 -- ---- a read is decided at the own read byte
 

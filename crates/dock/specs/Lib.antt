@@ -6,3 +6,4 @@ pub mod Refusals
 pub mod Run
 pub mod Examples
 pub mod Ours
+pub mod Moves
