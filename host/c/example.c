@@ -71,15 +71,27 @@ static void read_status(struct history *history) {
     add(history, DOCK_TAKE, 0, 0);
 }
 
+/* The numbers that an event has beside its kind, as text. */
+static void tell_data(uint32_t event, char *text, size_t size) {
+    unsigned first = dock_event_first(event);
+    unsigned second = dock_event_second(event);
+    switch (dock_event_kind(event)) {
+    case DOCK_BYTE:
+    case DOCK_PINS: snprintf(text, size, " %02Xh", first); break;
+    case DOCK_TAKE: snprintf(text, size, "%s", first == 1 ? ", ACK" : ", NACK"); break;
+    case DOCK_RESET: snprintf(text, size, " %Xh %02Xh", first, second); break;
+    default: snprintf(text, size, "%s", ""); break;
+    }
+}
+
 static void print_event(uint16_t word) {
     static const char *const names[8] = {"START", "STOP", "BYTE", "TAKE", "PINS", "TICK", "RESET", "TIMEOUT"};
     uint32_t event = dock_unpack(word);
-    uint8_t kind = dock_event_kind(event);
-    char data[8] = "";
-    if (kind == DOCK_BYTE || kind == DOCK_PINS) {
-        snprintf(data, sizeof data, "%02Xh", (unsigned)dock_event_first(event));
-    }
-    printf("%04X  %-7s %-4s", (unsigned)word, names[kind & 7u], data);
+    char data[16];
+    char text[32];
+    tell_data(event, data, sizeof data);
+    snprintf(text, sizeof text, "%s%s", names[dock_event_kind(event) & 7u], data);
+    printf("%04X  %-12s", (unsigned)word, text);
 }
 
 static void print_outputs(uint16_t outputs) {
@@ -113,13 +125,14 @@ static void print_status(uint8_t status) {
                                           "Removal Allowed", "reserved", "reserved", "reserved"};
     static const char *const flags[4] = {"USB device present", "1394 device present", "device status changed",
                                          "removal button pressed"};
-    printf("bay 0 reads %02Xh, %s", (unsigned)status, states[status >> 4 & 7]);
+    printf("bay 0 reads %02Xh, %s%s", (unsigned)status, states[status >> 4 & 7],
+           status & 0x80 ? ", security lock engaged" : "");
     for (int bit = 3; bit >= 0; bit--) {
         if (status >> bit & 1) {
             printf(", %s", flags[bit]);
         }
     }
-    puts(status & 0x80 ? ", security lock engaged" : "");
+    puts("");
 }
 
 int main(void) {

@@ -1,11 +1,17 @@
 /* The proved controller of a two-bay cartridge dock, for C99 or C++11 and newer.
  *
  * The library keeps nothing between calls: each call that takes words begins with a fresh controller and takes the
- * whole history, at most DOCK_MOST_WORDS event words. Every call accepts every input; what it cannot do it refuses
- * with a number, and then it writes nothing. "Document 01" is the paper that gives the rules.
+ * whole history, at most DOCK_MOST_WORDS event words. "Document 01" is the paper that gives the rules.
  *
- * A list is passed as a pointer and the number of its elements (not bytes). The pointer is never NULL, also where the
- * list is empty, and the two lists of dock_replay do not overlap.
+ * A list is passed as a pointer and the number of its elements (not bytes). Any word, any number and any two lengths
+ * are taken: a call returns, and what it cannot do it refuses with a number and writes nothing. A word that is refused
+ * has a record that says so, and is no fault of the call.
+ *
+ * What a call cannot see stays the caller's duty:
+ * - A pointer is not NULL, also where its list is empty, and is aligned for its elements.
+ * - That many elements are there: words to read, record bytes to write.
+ * - The two lists of dock_replay do not overlap, and nobody else writes to a list, or reads the records, during the
+ *   call. Calls on different lists may run at the same time.
  */
 #ifndef DOCK_H
 #define DOCK_H
@@ -100,7 +106,9 @@ static inline uint32_t dock_record_bits(const uint8_t *record) {
 }
 static inline uint32_t dock_record_refusal(const uint8_t *record) { return dock_record_bits(record) >> 28; }
 static inline uint32_t dock_record_reply(const uint8_t *record) { return dock_record_bits(record) >> 25 & 7u; }
-static inline uint8_t dock_record_byte(const uint8_t *record) { return (uint8_t)(dock_record_bits(record) >> 17 & 0xFFu); }
+static inline uint8_t dock_record_byte(const uint8_t *record) {
+    return (uint8_t)(dock_record_bits(record) >> 17 & 0xFFu);
+}
 static inline uint16_t dock_record_outputs(const uint8_t *record) {
     return (uint16_t)(dock_record_bits(record) >> 8 & 0x1FFu);
 }

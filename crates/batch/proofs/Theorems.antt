@@ -14,8 +14,10 @@ use Rattle.dock.specs.Run.{after, answersTo}
 use Rattle.dock.specs.Answers.{byteOf, outputsOf}
 use Rattle.dock.specs.declared.Controller.{Controller}
 use Rattle.dock.specs.declared.Answer.{Answer}
+use Rattle.dock.specs.declared.Answer.the-variants as answer
+use Rattle.bus.specs.declared.Reply.the-variants.{Driven}
 use Rattle.dock.proofs.Run.{after-append, answers-append, answers-length}
-use Rattle.batch.specs.Record.{recordOf, recordsOf}
+use Rattle.batch.specs.Record.{recordNumber, recordOf, recordsOf}
 use Rattle.batch.specs.Batch.{outcomeOf, stateBy, batchOf, bufferAfter}
 use Rattle.batch.specs.Outcome.{outcomeCount}
 use Rattle.batch.specs.Decode.{decode}
@@ -103,6 +105,11 @@ cut-anywhere s xs ys =
 
 pub record-decodes : (a : Answer) → byteOf a < 256 → outputsOf a < 512 → decode (recordOf a) ≡ a
 record-decodes = decoded
+
+-- The paper's last record, of the answer 0, 3, 15h, 041h.
+pub last-record : recordOf (answer.Done (Driven 0x15) 0x041) ≡ 0x06 ∷ 0x2A ∷ 0x41 ∷ 0x00 ∷ []
+unfolding recordOf recordNumber
+last-record = refl
 
 -- ---- the contracts determine their answers
 

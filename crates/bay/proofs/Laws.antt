@@ -4,20 +4,22 @@ use Prim.Native.Nat.{ℕ, zero, suc, _^_, _<_, _≤_, zero-le}
 use native.Mathlib.Omega.{arith}
 use native.Mathlib.Nat.{le-refl}
 use mathlib.Core.Path.{_≡_, refl, sym, _∙_}
-use mathlib.Core.Logic.{_↔_, _⊎_, inl, inr}
-use mathlib.Core.Bool.{Bool, true, false, not, cond, _&&_, _||_, and-eq-true-iff, and-true, and-false, and-not-self, not-and-self, or-true, or-false}
+use mathlib.Core.Logic.{_↔_, _⊎_, inl, inr, ⊎-elim}
+use mathlib.Core.Bool.{Bool, true, false, not, cond, _&&_, _||_, and-eq-true-iff, and-true, and-false, and-not-self, not-and-self, or-true, or-false, false≢true}
+use lib.Dec.{eqb}
 use borrow.Author.Tests.{lt-ltb, le-leb, lt-leb}
-use Rattle.bits.specs.Bits.{put}
+use Rattle.bits.specs.Bits.{bit, put}
 use Rattle.bay.specs.Record.{N1394, NUSB, NREMREQ, EMPTY, ENABLED, REMOVAL-REQUESTED, REMOVAL-ALLOWED, level, acceptedLevel, count, present}
 use Rattle.bay.specs.Debounce.{differs, sampledBay}
-use Rattle.bay.specs.Moves.{input, leaves, pressed, presentAfter, inUse, stateAfter, movedBay, tickedBay}
+use Rattle.bay.specs.Moves.{input, leaves, pressed, inUse, stateAfter, movedBay, tickedBay}
 use Rattle.bay.specs.Registers.{bstrOf, bcerOf, asks, stateWritten, requestWritten, controlledBay}
 use Rattle.bay.specs.Outputs.{lockPin, green, yellow, bayOutputs}
 use Rattle.bay.specs.Held.{afterTicks, tickedFor}
 use Rattle.bay.specs.Sound.{Sound}
 use Rattle.bay.specs.declared.Bay.{Bay}
 use Rattle.bay.specs.declared.Control.{Control}
-use Rattle.bay.proofs.Length.{counting, settledAt, counts-up, settles-last, follows, sampled-from-0}
+use Rattle.bay.proofs.Ticks.{present-after, press-after, changes-after}
+use Rattle.bay.proofs.Length.{restart-same, restart-other, counting, settledAt, counts-up, settles-last, follows, sampled-from-0}
 
 -- ---- power
 
@@ -36,21 +38,28 @@ power-needs-lock-and-device c mode ticks b = (parts, λ h. rw (h .0, h .1, h .2)
 
 -- ---- a device that leaves, and one that stays
 
--- The device after a TICK, as the rules see it.
-present-after : (b : Bay) → present (tickedBay b) ≡ presentAfter (input b N1394) (input b NUSB)
-unfolding tickedBay movedBay present
-present-after b = refl
-
--- What a removal does: Empty, stored request 0, PWR_CTL 0, and LOCK_CTL as it was.
+-- What a removal does: Empty, stored request 0, PWR_CTL 0, and the rest of BCER as it was.
 pub record Removed (before after : Bay) : Type 0 where
-  pub emptied : after .state ≡ EMPTY
+  pub emptied : after .state ≡ 0
   pub request-gone : after .control .request ≡ 0
   pub power-off : after .control .«pwr_ctl» ≡ false
   pub lock-kept : after .control .«lock_ctl» ≡ before .control .«lock_ctl»
+  pub remreq-kept : after .control .«remreq_en» ≡ before .control .«remreq_en»
+  pub devstschg-kept : after .control .«devstschg_en» ≡ before .control .«devstschg_en»
+  pub remevtwak-kept : after .control .«remevtwak_en» ≡ before .control .«remevtwak_en»
 
 removed : (b : Bay) → leaves b (input b N1394) (input b NUSB) ≡ true → Removed b (tickedBay b)
 unfolding tickedBay movedBay stateAfter
-removed b l = record { emptied = rw l; request-gone = rw l; power-off = rw l (and-false (b .control .«pwr_ctl»)); lock-kept = refl }
+removed b l =
+    record {
+      emptied = rw l;
+      request-gone = rw l;
+      power-off = rw l (and-false (b .control .«pwr_ctl»));
+      lock-kept = refl;
+      remreq-kept = refl;
+      devstschg-kept = refl;
+      remevtwak-kept = refl;
+    }
 
 -- A TICK in which the device leaves.
 pub removal : (b : Bay) → present b ≡ true → present (tickedBay b) ≡ false → Removed b (tickedBay b)
@@ -64,14 +73,14 @@ stays b h = rw (← (present-after b)) (go (present b) (present (tickedBay b)) h
     go true q h = rw (h refl)
     go false q h = refl
 
--- .. and PWR_CTL is kept.
-power-kept : (b : Bay) → leaves b (input b N1394) (input b NUSB) ≡ false → tickedBay b .control .«pwr_ctl» ≡ b .control .«pwr_ctl»
+-- .. and BCER is kept.
+control-kept : (b : Bay) → leaves b (input b N1394) (input b NUSB) ≡ false → tickedBay b .control ≡ b .control
 unfolding tickedBay movedBay
-power-kept b l = rw l (and-true (b .control .«pwr_ctl»))
+control-kept b l = rw l (simp and-true)
 
--- A TICK in which the device doesn't leave keeps PWR_CTL.
-pub tick-keeps-power : (b : Bay) → (present b ≡ true → present (tickedBay b) ≡ true) → tickedBay b .control .«pwr_ctl» ≡ b .control .«pwr_ctl»
-tick-keeps-power b h = power-kept b (stays b h)
+-- A TICK in which the device doesn't leave keeps BCER, power with it.
+pub tick-keeps-control : (b : Bay) → (present b ≡ true → present (tickedBay b) ≡ true) → tickedBay b .control ≡ b .control
+tick-keeps-control b h = control-kept b (stays b h)
 
 -- A powered bay that is Enabled after a TICK is still powered.
 pub enabled-keeps-power : (b : Bay) → b .control .«pwr_ctl» ≡ true → tickedBay b .state ≡ ENABLED → tickedBay b .control .«pwr_ctl» ≡ true
@@ -79,7 +88,7 @@ enabled-keeps-power b w e = go (leaves b (input b N1394) (input b NUSB)) refl
   where
     go : (t : Bool) → leaves b (input b N1394) (input b NUSB) ≡ t → tickedBay b .control .«pwr_ctl» ≡ true
     go true l = absurd (omega (arith, removed b l .emptied))
-    go false l = power-kept b l ∙ w
+    go false l = rw (control-kept b l) w
 
 -- ---- what a TICK makes of the state
 
@@ -101,10 +110,18 @@ stayed b s =
     record { state-kept = rw (q, and-not-self, not-and-self); request-kept = rw (q, and-not-self); power-kept = rw (q, and-not-self) (and-true (b .control .«pwr_ctl»)) }
 
 -- Present means accepted 1394 or USB.
-either : (i : ℕ) → i < 2 → (b : Bay) → acceptedLevel b i ≡ false → present b ≡ true
+pub present-means : (b : Bay) → (present b ≡ true) ↔ ((acceptedLevel b 0 ≡ false) ⊎ (acceptedLevel b 1 ≡ false))
 unfolding present
-either zero l b a = rw a
-either (suc zero) l b a = rw a (or-true (not (acceptedLevel b N1394)))
+present-means b = (parts (acceptedLevel b 0) (acceptedLevel b 1), ⊎-elim (λ a. rw a) (λ a. rw a (or-true (not (acceptedLevel b 0)))))
+  where
+    parts : (m n : Bool) → (not m || not n) ≡ true → (m ≡ false) ⊎ (n ≡ false)
+    parts true true h = absurd (false≢true h)
+    parts true false h = inr refl
+    parts false n h = inl refl
+
+either : (i : ℕ) → i < 2 → (b : Bay) → acceptedLevel b i ≡ false → present b ≡ true
+either zero l b a = present-means b .1 (inl a)
+either (suc zero) l b a = present-means b .1 (inr a)
 either (suc (suc i)) l b a = absurd (omega arith)
 
 -- One of the two presence bits, inputs 0 and 1, still asserted is a device that stays, whatever the other bit does: the bay doesn't go
@@ -112,50 +129,59 @@ either (suc (suc i)) l b a = absurd (omega arith)
 pub one-of-two : (b : Bay) (i : ℕ) → i < 2 → present b ≡ true → acceptedLevel (tickedBay b) i ≡ false → Stayed b (tickedBay b)
 one-of-two b i l p a = stayed b (either i l (tickedBay b) a ∙ sym p)
 
--- An accepted press sets REMREQ_STS, in any state.
-pub pressed-sets : (b : Bay) → tickedBay b .«remreq_sts» ≡ (b .«remreq_sts» || pressed (input b NREMREQ))
+-- An accepted press, nREMREQ accepted as 1 before and as 0 after, sets REMREQ_STS, in any state.
+pub pressed-sets : (b : Bay) → tickedBay b .«remreq_sts» ≡ (b .«remreq_sts» || acceptedLevel b NREMREQ && not (acceptedLevel (tickedBay b) NREMREQ))
 unfolding tickedBay movedBay
-pressed-sets b = refl
+pressed-sets b = rw (← (press-after b))
+
+-- A change of either presence bit sets DEVSTSCHG, except when a bay in Removal Allowed becomes not present with REMEVTWAK_EN clear.
+pub change-told :
+    (b : Bay)
+    → tickedBay b .devstschg
+    ≡ (b .devstschg || (differs (acceptedLevel b N1394) (acceptedLevel (tickedBay b) N1394) || differs (acceptedLevel b NUSB) (acceptedLevel (tickedBay b) NUSB)) && not (eqb (b .state) 4 && (present b && not (present (tickedBay b))) && not (b .control .«remevtwak_en»)))
+unfolding tickedBay movedBay
+change-told b = rw (← (changes-after b), present-after b)
 
 -- With REMREQ_STS set already an accepted press makes no move: REMREQ_STS with REMREQ_EN isn't a level.
 pub press-once : (b : Bay) → b .«remreq_sts» ≡ true → present (tickedBay b) ≡ present b → tickedBay b .state ≡ b .state
 press-once b r s = stayed b s .state-kept ∙ rw (r, and-false)
 
--- A button that is held is one press: where its level isn't accepted in this TICK, it moves nothing and sets nothing.
+-- A button that is held is one press: where its accepted level stays as it was, a TICK moves nothing and sets nothing by it.
 pub held-button :
-    (b : Bay) → input b NREMREQ .settled ≡ false → present (tickedBay b) ≡ present b
+    (b : Bay) → acceptedLevel (tickedBay b) NREMREQ ≡ acceptedLevel b NREMREQ → present (tickedBay b) ≡ present b
     → (tickedBay b .state ≡ b .state) × (tickedBay b .«remreq_sts» ≡ b .«remreq_sts»)
-held-button b h s = (stayed b s .state-kept ∙ rw h, pressed-sets b ∙ rw h (or-false (b .«remreq_sts»)))
+held-button b h s =
+    (stayed b s .state-kept ∙ rw (press-after b, h, and-not-self), pressed-sets b ∙ rw (h, and-not-self) (or-false (b .«remreq_sts»)))
 
 -- ---- requests
 
 -- A request of 0 or 5-7 keeps the stored one.
 pub request-0-kept :
-    (c : Control) (mode : Bool) (ticks : ℕ) (b : Bay) → (c .request ≡ 0) ⊎ (REMOVAL-ALLOWED < c .request) → controlledBay c mode ticks b .control .request ≡ b .control .request
+    (c : Control) (mode : Bool) (ticks : ℕ) (b : Bay) → (c .request ≡ 0) ⊎ (4 < c .request) → controlledBay c mode ticks b .control .request ≡ b .control .request
 unfolding controlledBay requestWritten asks
 request-0-kept c mode ticks b (inl z) = rw z
 request-0-kept c mode ticks b (inr l) = rw (lt-leb (c .request) REMOVAL-ALLOWED l, and-false)
 
 -- A request 1-4 is stored, and with a device present it is the state, whatever else is written.
-asks-to : (c : Control) → 0 < c .request → c .request ≤ REMOVAL-ALLOWED → asks c ≡ true
+asks-to : (c : Control) → 0 < c .request → c .request ≤ 4 → asks c ≡ true
 unfolding asks
 asks-to c l h = rw (lt-ltb EMPTY (c .request) l, le-leb (c .request) REMOVAL-ALLOWED h)
 
 pub request-stored :
-    (c : Control) (mode : Bool) (ticks : ℕ) (b : Bay) → 0 < c .request → c .request ≤ REMOVAL-ALLOWED → controlledBay c mode ticks b .control .request ≡ c .request
+    (c : Control) (mode : Bool) (ticks : ℕ) (b : Bay) → 0 < c .request → c .request ≤ 4 → controlledBay c mode ticks b .control .request ≡ c .request
 unfolding controlledBay requestWritten
 request-stored c mode ticks b l h = rw (asks-to c l h)
 
 pub request-decides :
     (c : Control) (mode : Bool) (ticks : ℕ) (b : Bay)
-    → 0 < c .request → c .request ≤ REMOVAL-ALLOWED → present b ≡ true → controlledBay c mode ticks b .state ≡ c .request
+    → 0 < c .request → c .request ≤ 4 → present b ≡ true → controlledBay c mode ticks b .state ≡ c .request
 unfolding controlledBay stateWritten
 request-decides c mode ticks b l h p = rw (asks-to c l h, p)
 
 -- It doesn't bounce back in the next TICK, though REMREQ_STS and REMREQ_EN are set.
 pub request-stands :
     (c : Control) (mode : Bool) (ticks : ℕ) (b : Bay)
-    → 0 < c .request → c .request ≤ REMOVAL-ALLOWED → present b ≡ true → b .«remreq_sts» ≡ true
+    → 0 < c .request → c .request ≤ 4 → present b ≡ true → b .«remreq_sts» ≡ true
     → present (tickedBay (controlledBay c mode ticks b)) ≡ true → tickedBay (controlledBay c mode ticks b) .state ≡ c .request
 unfolding controlledBay present
 request-stands c mode ticks b l h p r q = press-once (controlledBay c mode ticks b) r (q ∙ sym p) ∙ request-decides c mode ticks b l h p
@@ -196,6 +222,53 @@ pub outputs-nibble : (mode lit : Bool) (b : Bay) → bayOutputs mode lit b < 16
 unfolding bayOutputs
 outputs-nibble mode lit b =
     omega (arith, put-most 3 (b .control .«pwr_ctl»), put-most 2 (lockPin mode b), put-most 1 (green lit b), put-most 0 (yellow lit b))
+
+-- ---- a sample
+
+-- The four levels of a bay: n1394, nUSB, nREMREQ, nSL.
+pub record Sensed (levels : ℕ) (b : Bay) : Type 0 where
+  pub n1394 : level b N1394 ≡ bit 3 levels
+  pub nusb : level b NUSB ≡ bit 2 levels
+  pub nremreq : level b NREMREQ ≡ bit 1 levels
+  pub nsl : b .«n_sl» ≡ bit 0 levels
+
+-- PINS stores them and sets to 0 the count of each input whose level now equals the accepted one. It alters nothing else: it accepts no
+-- level and moves no bay.
+pub record Sampled (levels : ℕ) (before after : Bay) : Type 0 where
+  pub senses : Sensed levels after
+  pub restarted : (i : ℕ) → i < 3 → level after i ≡ acceptedLevel before i → count after i ≡ 0
+  pub counting-on : (i : ℕ) → i < 3 → differs (level after i) (acceptedLevel before i) ≡ true → count after i ≡ count before i
+  pub accepted-kept : after .accepted ≡ before .accepted
+  pub state-kept : after .state ≡ before .state
+  pub flags-kept : (after .«remreq_sts» ≡ before .«remreq_sts») × (after .devstschg ≡ before .devstschg)
+  pub control-kept : after .control ≡ before .control
+  pub pulse-kept : after .pulse ≡ before .pulse
+
+pub sampled : (levels : ℕ) (b : Bay) → Sampled levels b (sampledBay levels b)
+unfolding sampledBay
+sampled levels b =
+    record {
+      senses = record { n1394 = refl; nusb = refl; nremreq = refl; nsl = refl };
+      restarted = at-0;
+      counting-on = on;
+      accepted-kept = refl;
+      state-kept = refl;
+      flags-kept = (refl, refl);
+      control-kept = refl;
+      pulse-kept = refl;
+    }
+  where
+    at-0 : (i : ℕ) → i < 3 → level (sampledBay levels b) i ≡ acceptedLevel b i → count (sampledBay levels b) i ≡ 0
+    at-0 zero l e = restart-same _ _ _ e
+    at-0 (suc zero) l e = restart-same _ _ _ e
+    at-0 (suc (suc zero)) l e = restart-same _ _ _ e
+    at-0 (suc (suc (suc i))) l e = absurd (omega arith)
+
+    on : (i : ℕ) → i < 3 → differs (level (sampledBay levels b) i) (acceptedLevel b i) ≡ true → count (sampledBay levels b) i ≡ count b i
+    on zero l e = restart-other _ _ _ e
+    on (suc zero) l e = restart-other _ _ _ e
+    on (suc (suc zero)) l e = restart-other _ _ _ e
+    on (suc (suc (suc i))) l e = absurd (omega arith)
 
 -- ---- debounce
 

@@ -3,8 +3,8 @@ use Prim.Native.Nat.{ℕ, zero, suc, _<_}
 use native.Mathlib.Omega.{arith}
 use native.Mathlib.Numerals.{add-one}
 use mathlib.Core.Path.{_≡_, refl, _∙_}
-use mathlib.Core.Bool.{Bool, true, false, Bool·beq}
-use borrow.Author.Tests.{le-leb, lt-leb}
+use mathlib.Core.Bool.{Bool, true, false, Bool·beq, true≢false, false≢true}
+use borrow.Author.Tests.{le-leb, lt-leb, not-true}
 use Rattle.bay.specs.Record.{TICKS, level, acceptedLevel, count}
 use Rattle.bay.specs.Debounce.{differs, debounce, restart, sampledBay}
 use Rattle.bay.specs.Moves.{input, movedBay, tickedBay}
@@ -77,7 +77,19 @@ follows (suc k) b i l =
       counts = g .counts ∙ rw (level-kept k b, f .accepts, f .counts);
     }
 
--- PINS leaves a count of 0 as it is.
+-- PINS sets the count of an input to 0 where its level is the accepted one, and else leaves it.
+pub restart-same : (l a : Bool) (n : ℕ) → l ≡ a → restart l a n ≡ 0
+unfolding restart
+restart-same true true n e = refl
+restart-same true false n e = absurd (true≢false e)
+restart-same false true n e = absurd (false≢true e)
+restart-same false false n e = refl
+
+pub restart-other : (l a : Bool) (n : ℕ) → differs l a ≡ true → restart l a n ≡ n
+unfolding restart
+restart-other l a n d = rw (not-true (Bool·beq l a) d)
+
+-- So it leaves a count of 0 as it is.
 restart-0 : (l a : Bool) (n : ℕ) → n ≡ 0 → restart l a n ≡ 0
 unfolding restart
 restart-0 l a n z = pick (λ k. k ≡ 0) (Bool·beq l a) (λ _. refl) (λ _. z)

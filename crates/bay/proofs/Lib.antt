@@ -4,4 +4,7 @@ pub mod Sound
 pub mod Length
 pub mod Ticks
 pub mod Laws
+pub mod Table
+pub mod Named
+pub mod Press
 pub mod Determined

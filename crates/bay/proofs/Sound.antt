@@ -10,12 +10,13 @@ use lib.ListN.{getD}
 use lib.Dec.{eqb, ltb, leb}
 use borrow.Author.Tests.{eq-eqb, ne-eqb, eqb-true, eqb-false, not-true}
 use Rattle.bay.specs.Record.{N1394, NUSB, NREMREQ, EMPTY, INSERTED, ENABLED, present, level, acceptedLevel, count, emptyBay, resetBay, bayFit, withStatus}
-use Rattle.bay.specs.Debounce.{debounce, restart, sampledBay}
+use Rattle.bay.specs.Debounce.{debounce, sampledBay}
 use Rattle.bay.specs.Moves.{input, pressed, presentAfter, inUse, stateAfter, movedBay, tickedBay}
 use Rattle.bay.specs.Registers.{bstrWritten, asks, stateWritten, controlledBay}
 use Rattle.bay.specs.Sound.{Sound}
 use Rattle.bay.specs.declared.Bay.{Bay}
 use Rattle.bay.specs.declared.Control.{Control}
+use Rattle.bay.proofs.Length.{restart-same}
 use Rattle.bay.proofs.Taut.{implies, suppose, apply, taut}
 
 -- ---- held and waiting, as a test
@@ -111,13 +112,6 @@ powered-ticked w k p q h t =
 
 -- ---- still
 
-still-restarted : (l a : Bool) (n : ℕ) → l ≡ a → restart l a n ≡ 0
-unfolding restart
-still-restarted true true n e = refl
-still-restarted true false n e = absurd (true≢false e)
-still-restarted false true n e = absurd (false≢true e)
-still-restarted false false n e = refl
-
 -- An input whose level differed has accepted it, with a count of 0, or differs still.
 settled-or-apart : (l : Bool) (n : ℕ) (t : Bool) → l ≡ cond t l (not l) → cond t 0 n ≡ 0
 settled-or-apart l n true e = refl
@@ -164,8 +158,8 @@ sampled-sound levels b s =
       held = s .held;
       waiting = s .waiting;
       still =
-          of-three (λ i n. level (sampledBay levels b) i ≡ acceptedLevel b i → n ≡ 0) (still-restarted _ _ _) (still-restarted _ _ _)
-          (still-restarted _ _ _) (λ i e. refl);
+          of-three (λ i n. level (sampledBay levels b) i ≡ acceptedLevel b i → n ≡ 0) (restart-same _ _ _) (restart-same _ _ _)
+          (restart-same _ _ _) (λ i e. refl);
     }
 
 pub ticked-sound : (b : Bay) → Sound b → Sound (tickedBay b)

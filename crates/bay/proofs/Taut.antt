@@ -1,8 +1,9 @@
 -- Reasoning by cases on Bools: what holds of both answers of a test holds of the answer picked, and a statement over n Bools that
 -- computes to true at every assignment holds at each. Assumes nothing.
-use Prim.Native.Nat.{ℕ, zero, suc}
+use Prim.Native.Nat.{ℕ, zero, suc, _<_}
+use native.Mathlib.Omega.{arith}
 use mathlib.Core.Path.{_≡_, refl}
-use mathlib.Core.Bool.{Bool, true, false, cond, _&&_, and-eq-true-iff, false≢true}
+use mathlib.Core.Bool.{Bool, true, false, cond, _&&_, Bool·beq, and-eq-true-iff, false≢true}
 
 -- What holds of the first answer where the test passes, and of the second where it fails, holds of the answer picked.
 pub pick : {A : Type 0} (P : A → Type 0) {m n : A} (t : Bool) → (t ≡ true → P m) → (t ≡ false → P n) → P (cond t m n)
@@ -40,3 +41,24 @@ suppose false q f = refl
 pub apply : (p q : Bool) → implies p q ≡ true → p ≡ true → q ≡ true
 apply true q h t = h
 apply false q h t = absurd (false≢true t)
+
+-- A test that computes to true at every number below n holds at each.
+abbrev pub Below : ℕ → (ℕ → Bool) → Bool
+Below zero f = true
+Below (suc n) f = f zero && Below n (λ k. f (suc k))
+
+pub below : (n : ℕ) (f : ℕ → Bool) → Below n f ≡ true → (k : ℕ) → k < n → f k ≡ true
+below zero f h k l = absurd (omega arith)
+below (suc n) f h zero l = and-eq-true-iff (f zero) (Below n (λ k. f (suc k))) .0 h .0
+below (suc n) f h (suc k) l = below n (λ k. f (suc k)) (and-eq-true-iff (f zero) (Below n (λ k. f (suc k))) .0 h .1) k (omega arith)
+
+-- .. and a statement over m Bools too.
+pub below-taut : (n m : ℕ) (f : ℕ → Fun m) → Below n (λ k. All m (f k)) ≡ true → (k : ℕ) → k < n → Holds m (f k)
+below-taut n m f h k l = taut m (f k) (below n (λ k. All m (f k)) h k l)
+
+-- Two tests that are equal as a test are equal.
+pub same : (p q : Bool) → Bool·beq p q ≡ true → p ≡ q
+same true true h = refl
+same true false h = absurd (false≢true h)
+same false true h = absurd (false≢true h)
+same false false h = refl

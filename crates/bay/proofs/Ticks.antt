@@ -1,14 +1,14 @@
 -- What a TICK comes to: where a device leaves, where none does, and where every level is the accepted one. Assumes nothing.
-use Prim.Native.Nat.{ℕ, _-_}
-use mathlib.Core.Path.{_≡_, refl}
-use mathlib.Core.Bool.{Bool, true, false, not, _&&_, _||_, Bool·beq, and-true, and-false, or-false, and-not-self, not-and-self, and-eq-true-iff}
+use Prim.Native.Nat.{ℕ, _+_, _-_}
+use mathlib.Core.Path.{_≡_, refl, ap, _∙_}
+use mathlib.Core.Bool.{Bool, true, false, not, cond, _&&_, _||_, Bool·beq, and-true, and-false, or-false, and-not-self, not-and-self, and-eq-true-iff}
 use mathlib.Core.List.{List, [], _∷_}
-use lib.Dec.{eqb}
+use lib.Dec.{eqb, leb}
 use lib.ListN.{length, getD}
 use native.Mathlib.Omega.{arith}
 use Rattle.bay.specs.Record.{N1394, NUSB, NREMREQ, TICKS, level, acceptedLevel, count, present, EMPTY, REMOVAL-ALLOWED, withInputs, withStatus}
-use Rattle.bay.specs.Debounce.{debounce}
-use Rattle.bay.specs.Moves.{leaves, arrives, changes, pressed, stateAfter, controlAfter, requestedAfter, changedAfter, movedBay, tickedBay}
+use Rattle.bay.specs.Debounce.{differs, debounce}
+use Rattle.bay.specs.Moves.{input, presentAfter, leaves, arrives, changes, pressed, stateAfter, controlAfter, requestedAfter, changedAfter, movedBay, tickedBay}
 use Rattle.bay.specs.declared.Bay.{Bay}
 use Rattle.bay.specs.declared.Control.{Control}
 use Rattle.bay.specs.declared.Input.{Input}
@@ -71,3 +71,43 @@ steady b la lc e =
       three 0 (b .counts) lc,
     )
     (simp or-false)
+
+-- ---- what a TICK brings, by the accepted levels before and after it
+
+pub present-after : (b : Bay) → present (tickedBay b) ≡ presentAfter (input b N1394) (input b NUSB)
+unfolding tickedBay movedBay present
+present-after b = refl
+
+-- A level that was accepted in this TICK is one that was not accepted before.
+accepts-other : (n : ℕ) (l a : Bool) (k : ℕ) → debounce n l a k .settled ≡ differs a (debounce n l a k .accepted)
+unfolding debounce
+accepts-other n true true k = refl
+accepts-other n true false k = go (leb n (k + 1))
+  where
+    go : (t : Bool) → t ≡ differs false (cond t true false)
+    go true = refl
+    go false = refl
+accepts-other n false true k = go (leb n (k + 1))
+  where
+    go : (t : Bool) → t ≡ differs true (cond t false true)
+    go true = refl
+    go false = refl
+accepts-other n false false k = refl
+
+-- So a change and a press show at the accepted levels.
+pub changes-after :
+    (b : Bay)
+    → changes (input b N1394) (input b NUSB)
+    ≡ (differs (acceptedLevel b N1394) (acceptedLevel (tickedBay b) N1394) || differs (acceptedLevel b NUSB) (acceptedLevel (tickedBay b) NUSB))
+unfolding tickedBay movedBay
+changes-after b = rw (accepts-other TICKS (level b N1394) (acceptedLevel b N1394) (count b N1394), accepts-other TICKS (level b NUSB) (acceptedLevel b NUSB) (count b NUSB))
+
+pub press-after : (b : Bay) → pressed (input b NREMREQ) ≡ (acceptedLevel b NREMREQ && not (acceptedLevel (tickedBay b) NREMREQ))
+unfolding tickedBay movedBay
+press-after b = ap (λ t. t && not (input b NREMREQ .accepted)) (accepts-other TICKS (level b NREMREQ) (acceptedLevel b NREMREQ) (count b NREMREQ)) ∙ fell (acceptedLevel b NREMREQ) (input b NREMREQ .accepted)
+  where
+    fell : (before after : Bool) → (differs before after && not after) ≡ (before && not after)
+    fell true true = refl
+    fell true false = refl
+    fell false true = refl
+    fell false false = refl

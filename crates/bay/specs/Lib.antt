@@ -5,3 +5,4 @@ pub mod Registers
 pub mod Outputs
 pub mod Sound
 pub mod Held
+pub mod Table

@@ -1,4 +1,4 @@
--- What a bay bayOutputs (document 01, "Bay moves": outputs and interrupt).
+-- What a bay drives (document 01, "Bay moves": outputs and interrupt).
 use Prim.Native.Nat.{ℕ, _+_}
 use mathlib.Core.Bool.{Bool, not, _&&_, _||_}
 use lib.Dec.{eqb}

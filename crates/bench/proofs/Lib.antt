@@ -1,2 +1,3 @@
+pub mod Inputs
 pub mod Ticks
 pub mod Theorems

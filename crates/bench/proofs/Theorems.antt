@@ -1,32 +1,73 @@
 -- What a line does to the bench, over the definitions that `heed` meets. Assumes nothing.
 use Prim.Native.Nat.{ℕ}
 use mathlib.Core.Path.{_≡_, refl}
-use mathlib.Core.List.{List}
-use Rattle.script.specs.Lines.{lineOf}
+use mathlib.Core.List.{List, [], _∷_, map}
+use borrow.Author.Tests.{ne-eqb}
+use Rattle.bytes.specs.Bytes.{indexOf}
+use Rattle.script.specs.Text.{blank, leading, trimmed, first, rest, spelled, spelled64}
+use Rattle.script.specs.Verbs.{name, verbs, verbOf}
+use Rattle.script.specs.Arguments.{digitOf, isOctet, octetOf, wordOf as wordIn, pairOf, countFrom, countOf, ticksOf}
+use Rattle.script.specs.Hands.{only, bayOf, kindOf, pulls, raises, insertLine, handLine}
+use Rattle.script.specs.Lines.{given, resetLine, takeLine, writeLine, orderLine, verbLine, plain, textLine, lineOf}
 use Rattle.script.specs.declared.Order.{Order}
 use Rattle.script.specs.declared.Line.{Line}
-use Rattle.script.specs.declared.Line.the-variants.{Blank, Unknown, Misused, Does}
-use Rattle.script.specs.declared.Order.the-variants.{Event as One, Ticks, Write}
-use Rattle.event.specs.Words.{wordOf, strapsOf, packed}
+use Rattle.script.specs.declared.Line.the-variants.{Blank, Unknown, Misused, Mishandled, Does}
+use Rattle.script.specs.declared.Order.the-variants.{Event as One, Ticks, Write, Address}
+use Rattle.event.specs.Words.{wordOf, strapsOf, packed, Bytes}
+use Rattle.event.specs.declared.Event.{Event}
 use Rattle.event.specs.declared.Event.the-variants.{Pins, Reset}
+use Rattle.event.specs.declared.Packed.the-variants.{Word}
+use Rattle.event.proofs.Theorems.{pack-then-unpack}
+use Rattle.dock.specs.Answers.{refusalOf}
 use Rattle.dock.specs.Examples.{R, N, w, pins, ticks}
-use Rattle.bench.specs.Orders.{wordsOf, does, heeded}
+use Rattle.dock.specs.Run.{after}
+use Rattle.dock.specs.Step.{stepOf}
+use Rattle.bench.specs.Levels.{pulled, raised, givenBy, levelsAfter}
+use Rattle.bench.specs.Orders.{wordsOf, sentOf, afterWords, obeyed, does, heeded}
+use Rattle.bench.specs.Examples.{Example, typedWords, examples}
 use Rattle.bench.specs.declared.Bench.{Bench}
 
--- What is typed as the paper writes it sends the words of the paper's examples P1 to P12.
+-- What is typed as the paper writes it sends the words of the paper's examples P1 to P12, whatever the levels are.
 pub record AsInThePaper : Type 0 where
-  pub R-typed : wordsOf 0x90 (One (Reset 0 0xBF)) ≡ R
-  pub N-typed : wordsOf 0x90 (One (Reset 0 0xFF)) ≡ N
-  pub w-typed : (r v : ℕ) → wordsOf 0x90 (Write r v) ≡ w r v
-  pub pins-typed : (l : ℕ) → wordsOf 0x90 (One (Pins l)) ≡ pins l
-  pub ticks-typed : (n : ℕ) → wordsOf 0x90 (Ticks n) ≡ ticks n
+  pub R-typed : (l : ℕ) → wordsOf 0x90 l (One (Reset 0 0xBF)) ≡ R
+  pub N-typed : (l : ℕ) → wordsOf 0x90 l (One (Reset 0 0xFF)) ≡ N
+  pub w-typed : (l r v : ℕ) → wordsOf 0x90 l (Write r v) ≡ w r v
+  pub pins-typed : (l p : ℕ) → wordsOf 0x90 l (One (Pins p)) ≡ pins p
+  pub ticks-typed : (l n : ℕ) → wordsOf 0x90 l (Ticks n) ≡ ticks n
 
 pub as-in-the-paper : AsInThePaper
 unfolding wordsOf packed wordOf strapsOf
-as-in-the-paper = record { R-typed = refl; N-typed = refl; w-typed = λ r v. refl; pins-typed = λ l. refl; ticks-typed = λ n. refl }
+as-in-the-paper = record { R-typed = λ l. refl; N-typed = λ l. refl; w-typed = λ l r v. refl; pins-typed = λ l p. refl; ticks-typed = λ l n. refl }
 
--- A line that is no order, as one that isn't understood, changes nothing: not the dock, and not the address.
-pub nothing-done : (l : List ℕ) (b : Bench) → ((o : Order) → lineOf l ≡ Does o → ⊥) → heeded l b ≡ b
+-- Each of the examples sends the words written there.
+pub examples-hold : map typedWords examples ≡ map (λ (e : Example). e .words) examples
+unfolding examples wordsOf pulled raised packed wordOf strapsOf indexOf lineOf plain textLine verbLine orderLine handLine insertLine pulls raises only bayOf kindOf given resetLine takeLine writeLine octetOf isOctet digitOf wordIn pairOf ticksOf countOf countFrom verbOf verbs name spelled spelled64 trimmed first rest leading blank
+examples-hold = refl
+
+-- After `at 96` a whole write begins with that byte.
+pub at-stays : (b : Bench) (l : ℕ) → wordsOf (obeyed (Address 0x96) b .address) l (Write 0x14 0x04) ≡ 0x0000 ∷ 0x4096 ∷ 0x4014 ∷ 0x4004 ∷ 0x2000 ∷ []
+unfolding wordsOf obeyed packed wordOf strapsOf
+at-stays b l = refl
+
+-- The dock on the bench is one that was given the words, by one single call after the other; the levels don't come into it.
+pub dock-follows : (ws : List ℕ) (b : Bench) → afterWords b ws .controller ≡ after (b .controller) ws
+unfolding afterWords after sentOf
+dock-follows [] b = refl
+dock-follows (v ∷ ws) b = dock-follows ws (sentOf b v .bench)
+
+-- The levels are those of the last PINS or RESET that was not refused: an event gives its own ..
+pub levels-given : (e : Event) → Bytes e → (v : ℕ) → packed e ≡ Word v → (b : Bench) → refusalOf (stepOf (b .controller) v .answer) ≡ 0
+    → sentOf b v .bench .levels ≡ givenBy e (b .levels)
+unfolding sentOf levelsAfter
+levels-given e fine v p b done = rw (done, pack-then-unpack e fine v p)
+
+-- .. and a word that is refused gives none.
+pub levels-kept : (v : ℕ) (b : Bench) → (refusalOf (stepOf (b .controller) v .answer) ≡ 0 → ⊥) → sentOf b v .bench .levels ≡ b .levels
+unfolding sentOf levelsAfter
+levels-kept v b refused = rw (ne-eqb _ _ refused)
+
+-- A line that is no order, as one that isn't understood, changes nothing: not the dock, not the address and not the levels.
+pub nothing-done : (l : List ℕ) (b : Bench) → ((o : Order) → lineOf l ≡ Does o → ⊥) → heeded l b .bench ≡ b
 unfolding heeded
 nothing-done l b no-order = go (lineOf l) refl
   where
@@ -34,4 +75,5 @@ nothing-done l b no-order = go (lineOf l) refl
     go Blank e = refl
     go Unknown e = refl
     go (Misused v) e = refl
+    go (Mishandled h) e = refl
     go (Does o) e = absurd (no-order o e)

@@ -3,14 +3,13 @@ use Prim.Native.Nat.{ℕ, zero, suc, _+_}
 use native.Mathlib.Numerals.{add-one}
 use mathlib.Core.Path.{_≡_, refl}
 use lib.ListN.{replicate}
-use Rattle.dock.specs.Step.{stepOf}
-use Rattle.dock.specs.Run.{after}
-use Rattle.dock.specs.declared.Controller.{Controller}
+use Rattle.bench.specs.Orders.{sentOf, afterWords}
+use Rattle.bench.specs.declared.Bench.{Bench}
 
-again : (n w : ℕ) (s : Controller) → after s (replicate (suc n) w) ≡ stepOf (after s (replicate n w)) w .controller
-unfolding after
-again zero w s = refl
-again (suc n) w s = again n w (stepOf s w .controller)
+again : (n w : ℕ) (b : Bench) → afterWords b (replicate (suc n) w) ≡ sentOf (afterWords b (replicate n w)) w .bench
+unfolding afterWords
+again zero w b = refl
+again (suc n) w b = again n w (sentOf b w .bench)
 
-pub once-more : (n w : ℕ) (s : Controller) → after s (replicate (n + 1) w) ≡ stepOf (after s (replicate n w)) w .controller
-once-more n w s = rw add-one (again n w s)
+pub once-more : (n w : ℕ) (b : Bench) → afterWords b (replicate (n + 1) w) ≡ sentOf (afterWords b (replicate n w)) w .bench
+once-more n w b = rw add-one (again n w b)

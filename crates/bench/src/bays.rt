@@ -17,6 +17,7 @@ pub(crate) fn read(controller: Controller, register: u8) -> u8 {
 // What is to be seen of a controller now.
 pub(crate) fn look(controller: Controller) -> Seen {
     Seen {
+        started: controller.machine.started,
         one_bay: read(controller, Machine::DBCCR) % 4 == Shared::ONE_BAY,
         bstr_0: read(controller, Machine::BSTR_0),
         bstr_1: read(controller, Machine::BSTR_1),
@@ -76,7 +77,15 @@ fn tell_interrupt(seen: Seen) {
     );
 }
 
+pub(crate) fn tell_unstarted() {
+    say(b"  no RESET has come yet\n");
+}
+
 pub(crate) fn tell_all(seen: Seen) {
+    if !seen.started {
+        tell_unstarted();
+        return;
+    }
     tell_bay_0(seen);
     tell_bay_1(seen);
     tell_interrupt(seen);

@@ -12,7 +12,7 @@ fn say_data(name: &[u8], data: u8) {
     say_byte(data as u16);
 }
 
-pub(crate) fn tell_event(event: Event) {
+fn tell_event(event: Event) {
     match event {
         Event::Start => say(b"  START"),
         Event::Stop => say(b"  STOP"),
@@ -33,6 +33,20 @@ pub(crate) fn tell_word(word: u16) {
     match event::unpack(word) {
         Unpacked::Accepted(event) => tell_event(event),
         Unpacked::StrayBit => say(b"  no event"),
+    }
+}
+
+pub(crate) fn is_reset(word: u16) -> bool {
+    let Unpacked::Accepted(event) = event::unpack(word) else {
+        return false;
+    };
+    if let Event::Reset {
+        straps: _,
+        levels: _,
+    } = event {
+        true
+    } else {
+        false
     }
 }
 

@@ -2,6 +2,8 @@
 use crate::LONGEST;
 use crate::say::say;
 use crate::say::say_count;
+use crate::say::say_either;
+use script::Hand;
 use script::Verb;
 
 fn say_use(verb: Verb) {
@@ -34,11 +36,36 @@ fn say_use(verb: Verb) {
     }
 }
 
+fn say_hand_use(hand: Hand) {
+    match hand {
+        Hand::Insert => say(
+            b"insert 0 usb    a cartridge goes into bay 0: nUSB goes low, or n1394 with `1394`\n",
+        ),
+        Hand::Remove => say(
+            b"remove 0        the cartridge of bay 0 is taken out: n1394 and nUSB go high\n",
+        ),
+        Hand::Press => say(b"press 0         the button of bay 0 goes down: nREMREQ goes low\n"),
+        Hand::Release => say(b"release 0       the button of bay 0 comes up: nREMREQ goes high\n"),
+        Hand::Secure => say(
+            b"secure 0        the security lock of bay 0 is engaged: nSL goes low\n",
+        ),
+        Hand::Unsecure => say(
+            b"unsecure 0      the security lock of bay 0 is disengaged: nSL goes high\n",
+        ),
+    }
+}
+
 pub(crate) fn tell_help() {
     say(
         b"  One order to a line; what follows a # is a comment. Numbers are hex, but for the ticks.\n",
     );
     say_help(Verb::Reset);
+    say_hand_help(Hand::Insert);
+    say_hand_help(Hand::Remove);
+    say_hand_help(Hand::Press);
+    say_hand_help(Hand::Release);
+    say_hand_help(Hand::Secure);
+    say_hand_help(Hand::Unsecure);
     say_help(Verb::Pins);
     say_help(Verb::Tick);
     say_help(Verb::Timeout);
@@ -60,26 +87,51 @@ fn say_help(verb: Verb) {
     say_use(verb);
 }
 
+fn say_hand_help(hand: Hand) {
+    say(b"  ");
+    say_hand_use(hand);
+}
+
 // The beginning of a message about a line.
 fn say_line(number: u64) {
     say(b"line ");
     say_count(number);
+    say(b": not understood, nothing done; ");
 }
 
 pub(crate) fn tell_unknown(number: u64) {
     say_line(number);
-    say(b": not understood, nothing done; `help` tells what is\n");
+    say(b"`help` tells what is\n");
 }
 
 pub(crate) fn tell_misuse(number: u64, verb: Verb) {
     say_line(number);
-    say(b": not understood, nothing done; it is written so:\n  ");
-    say_use(verb);
+    say(b"it is written so:\n");
+    say_help(verb);
+}
+
+pub(crate) fn tell_mishandling(number: u64, hand: Hand) {
+    say_line(number);
+    say(b"it is written so:\n");
+    say_hand_help(hand);
 }
 
 pub(crate) fn tell_longer(number: u64) {
     say_line(number);
-    say(b": longer than ");
+    say(b"it has more than ");
     say_count(LONGEST as u64);
-    say(b" characters, nothing done\n");
+    say(b" characters\n");
+}
+
+// How many lines were not understood, where any were.
+pub(crate) fn tell_wrong(count: u64) {
+    if count == 0 {
+        return;
+    }
+    say_count(count);
+    say_either(
+        count == 1,
+        b" line was not understood\n",
+        b" lines were not understood\n",
+    );
 }

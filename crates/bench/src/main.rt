@@ -4,30 +4,46 @@ mod bays;
 mod events;
 mod help;
 mod input;
+mod levels;
 mod orders;
 mod registers;
 mod say;
 
 ghost use mathlib.Core.Path.{_≡_};
 ghost use Rattle.bench.specs.Orders.{heeded};
+use dock::Answer;
 use dock::Controller;
 use help::tell_longer;
+use help::tell_mishandling;
 use help::tell_misuse;
 use help::tell_unknown;
+use help::tell_wrong;
 use input::read_line;
 use libc::STDIN_FILENO;
+use say::said;
 use say::say;
 use say::say_if;
 use script::Line;
 
-// A dock, and the address byte that a whole command begins with.
+// A dock, and what the lines to come depend on besides.
 struct Bench {
     controller: Controller,
+    // The byte that a whole command begins with.
     address: u8,
+    // As the last PINS or RESET that was not refused gave them.
+    levels: u8,
+}
+
+// After a word: the bench, and the answer.
+struct Sent {
+    bench: Bench,
+    answer: Answer,
 }
 
 // What can be seen of a dock.
 struct Seen {
+    // A RESET has come.
+    started: bool,
     // Bay 1 is closed.
     one_bay: bool,
     bstr_0: u8,
@@ -45,9 +61,15 @@ struct Typed {
     ended: bool,
 }
 
-// After a line: the bench, and whether there may be another line.
-struct Done {
+// After a line: the bench, and whether the line was understood.
+struct Heeded {
     bench: Bench,
+    understood: bool,
+}
+
+// The same, and whether there may be another line.
+struct Done {
+    heeded: Heeded,
     more: bool,
 }
 
@@ -55,48 +77,99 @@ struct Done {
 const LONGEST: usize = 255;
 
 // What a line does: one that isn't understood changes nothing.
-fn heed(bench: Bench, number: u64, line: &[u8]) -> Bench
+fn heed(bench: Bench, number: u64, line: &[u8]) -> Heeded
     ensures { λ r. ⌜ r ≡ heeded (now (line .entry)) bench ⌝ }
 {
     match script::meaning(line) {
-        Line::Blank => bench,
+        Line::Blank => Heeded {
+            bench,
+            understood: true,
+        },
         Line::Unknown => {
             tell_unknown(number);
-            bench
+            Heeded {
+                bench,
+                understood: false,
+            }
         }
         Line::Misused(verb) => {
             tell_misuse(number, verb);
-            bench
+            Heeded {
+                bench,
+                understood: false,
+            }
         }
-        Line::Does(order) => bench.obey(order),
+        Line::Mishandled(hand) => {
+            tell_mishandling(number, hand);
+            Heeded {
+                bench,
+                understood: false,
+            }
+        }
+        Line::Does(order) => Heeded {
+            bench: bench.obey(order),
+            understood: true,
+        },
     }
 }
 
-// One line. A person sees a sign that it is awaited; of a script the line itself is told.
+// A person sees a sign that a line is awaited; answers whether anybody reads it.
+fn ask(typing: bool) -> bool {
+    if !typing {
+        return true;
+    }
+    said(b"> ")
+}
+
+// Of a script the line itself is told; answers whether anybody reads it.
+fn echo(typing: bool, line: &[u8]) -> bool {
+    if typing {
+        return true;
+    }
+    say_if(0 < line.len(), b"> ");
+    say(line);
+    said(b"\n")
+}
+
+// The end, with nothing done.
+fn end(bench: Bench) -> Done {
+    Done {
+        heeded: Heeded {
+            bench,
+            understood: true,
+        },
+        more: false,
+    }
+}
+
+// One line. Where nobody reads what is told, none is taken any more.
 fn turn(bench: Bench, number: u64, typing: bool) -> Done {
     let mut text = [0u8; LONGEST];
-    say_if(typing, b"> ");
+    if !ask(typing) {
+        return end(bench);
+    }
     let typed = read_line(&mut text);
     let length = typed.length;
     let line = &text[..length];
     if typed.ended & (length == 0) {
         say_if(typing, b"\n");
-        return Done { bench, more: false };
+        return end(bench);
     }
-    if !typing {
-        say_if(0 < length, b"> ");
-        say(line);
-        say(b"\n");
+    if !echo(typing, line) {
+        return end(bench);
     }
     if typed.longer {
         tell_longer(number);
         return Done {
-            bench,
+            heeded: Heeded {
+                bench,
+                understood: false,
+            },
             more: !typed.ended,
         };
     }
     Done {
-        bench: heed(bench, number, line),
+        heeded: heed(bench, number, line),
         more: !typed.ended,
     }
 }
@@ -104,17 +177,20 @@ fn turn(bench: Bench, number: u64, typing: bool) -> Done {
 // A proved loop ends, and nothing says that an input does: the lines are counted up to a number that no run reaches.
 fn main() {
     let typing = libc::isatty(STDIN_FILENO) == 1;
-    let mut bench = Bench {
-        controller: Controller::fresh(),
-        address: 0x90,
-    };
+    let mut bench = Bench::fresh();
     let mut number: u64 = 1;
+    let mut wrong: u64 = 0;
     while number < u64::MAX {
         let done = turn(bench, number, typing);
-        if !done.more {
-            return;
+        let heeded = done.heeded;
+        if !heeded.understood {
+            wrong += 1;
         }
-        bench = done.bench;
+        if !done.more {
+            break;
+        }
+        bench = heeded.bench;
         number += 1;
     }
+    tell_wrong(wrong);
 }

@@ -1,21 +1,24 @@
 // What an order does to the dock, event word by event word, and what is told of it.
 ghost use mathlib.Core.Path.{_≡_};
 ghost use lib.ListN.{replicate};
-ghost use Rattle.dock.specs.Step.{stepOf};
-ghost use Rattle.dock.specs.Run.{after};
 ghost use Rattle.event.specs.declared.Event.the-variants.{Tick};
-ghost use Rattle.bench.specs.Orders.{wordFor, writeWords, readWords, obeyed};
+ghost use Rattle.bench.specs.Orders.{wordFor, writeWords, readWords, sentOf, afterWords, freshBench, obeyed};
 use crate::Bench;
 use crate::Seen;
+use crate::Sent;
 use crate::bays::differs;
 use crate::bays::look;
 use crate::bays::tell_all;
 use crate::bays::tell_changes;
+use crate::events::is_reset;
 use crate::events::tell_address;
 use crate::events::tell_answer;
-use crate::events::tell_event;
 use crate::events::tell_word;
 use crate::help::tell_help;
+use crate::levels::AT_REST;
+use crate::levels::levels_after;
+use crate::levels::pulled;
+use crate::levels::raised;
 use crate::registers::tell_registers;
 use crate::registers::tell_taken;
 use crate::say::say;
@@ -23,72 +26,79 @@ use crate::say::say_count;
 use crate::say::say_if;
 use dock::Answer;
 use dock::Controller;
-use dock::Stepped;
 use event::Event;
 use script::Order;
 
-// One event, as its word.
-fn send(controller: Controller, event: Event) -> Stepped
-    ensures { λ r. ⌜ r ≡ stepOf controller (wordFor event) ⌝ }
+fn word_for(event: Event) -> u16
+    ensures { λ r. ⌜ r ≡ wordFor event ⌝ }
 {
-    tell_event(event);
-    let stepped = controller.step(event::pack(event).word());
-    let answer = stepped.answer;
-    tell_answer(answer);
-    stepped
+    event::pack(event).word()
 }
 
-fn sent(controller: Controller, event: Event) -> Controller
-    ensures { λ r. ⌜ r ≡ stepOf controller (wordFor event) .controller ⌝ }
+// One word, by the single call.
+fn step(bench: Bench, word: u16) -> Sent
+    ensures { λ r. ⌜ r ≡ sentOf bench word ⌝ }
 {
-    send(controller, event).controller
+    let controller = bench.controller;
+    let stepped = controller.step(word);
+    let next = stepped.controller;
+    let answer = stepped.answer;
+    let levels = levels_after(answer, word, bench.levels);
+    Sent {
+        bench: Bench {
+            controller: next,
+            address: bench.address,
+            levels,
+        },
+        answer,
+    }
+}
+
+// One word, with its event and the answer told.
+fn send(bench: Bench, word: u16) -> Sent
+    ensures { λ r. ⌜ r ≡ sentOf bench word ⌝ }
+{
+    tell_word(word);
+    let sent = step(bench, word);
+    let answer = sent.answer;
+    tell_answer(answer);
+    sent
+}
+
+fn sent(bench: Bench, event: Event) -> Bench
+    ensures { λ r. ⌜ r ≡ sentOf bench (wordFor event) .bench ⌝ }
+{
+    send(bench, word_for(event)).bench
 }
 
 // What comes after the events of a line: their end, and what they changed.
-fn tell_end(before: Seen, controller: Controller) {
+fn tell_end(before: Seen, after: Bench) {
     say(b"\n");
-    tell_changes(before, look(controller));
+    tell_changes(before, look(after.controller));
 }
 
-// One event. After a RESET everything is told, since everything is new.
-fn one(controller: Controller, event: Event) -> Controller
-    ensures { λ r. ⌜ r ≡ stepOf controller (wordFor event) .controller ⌝ }
+// One word. After a RESET everything is told, since everything is new.
+fn one(bench: Bench, word: u16) -> Bench
+    ensures { λ r. ⌜ r ≡ sentOf bench word .bench ⌝ }
 {
-    let before = look(controller);
-    let next = sent(controller, event);
-    if let Event::Reset {
-        straps: _,
-        levels: _,
-    } = event {
+    let before = look(bench.controller);
+    let next = send(bench, word).bench;
+    if is_reset(word) {
         say(b"\n");
-        tell_all(look(next));
+        tell_all(look(next.controller));
     } else {
         tell_end(before, next);
     }
     next
 }
 
-// A word as it is.
-fn raw(controller: Controller, word: u16) -> Controller
-    ensures { λ r. ⌜ r ≡ stepOf controller word .controller ⌝ }
-{
-    let before = look(controller);
-    let stepped = controller.step(word);
-    let answer = stepped.answer;
-    let next = stepped.controller;
-    tell_word(word);
-    tell_answer(answer);
-    tell_end(before, next);
-    next
-}
-
 // A whole write.
-fn write(controller: Controller, address: u8, register: u8, value: u8) -> Controller
-    ensures { λ r. ⌜ r ≡ after controller (writeWords address register value) ⌝ }
+fn write(bench: Bench, register: u8, value: u8) -> Bench
+    ensures { λ r. ⌜ r ≡ afterWords bench (writeWords (bench .address) register value) ⌝ }
 {
-    let before = look(controller);
-    let opened = sent(controller, Event::Start);
-    let addressed = sent(opened, Event::Byte(address));
+    let before = look(bench.controller);
+    let opened = sent(bench, Event::Start);
+    let addressed = sent(opened, Event::Byte(bench.address));
     let chosen = sent(addressed, Event::Byte(register));
     let given = sent(chosen, Event::Byte(value));
     let next = sent(given, Event::Stop);
@@ -97,18 +107,18 @@ fn write(controller: Controller, address: u8, register: u8, value: u8) -> Contro
 }
 
 // A whole read, and what the byte that was driven says.
-fn read(controller: Controller, address: u8, register: u8) -> Controller
-    ensures { λ r. ⌜ r ≡ after controller (readWords address register) ⌝ }
+fn read(bench: Bench, register: u8) -> Bench
+    ensures { λ r. ⌜ r ≡ afterWords bench (readWords (bench .address) register) ⌝ }
 {
-    let before = look(controller);
-    let opened = sent(controller, Event::Start);
-    let addressed = sent(opened, Event::Byte(address));
+    let before = look(bench.controller);
+    let opened = sent(bench, Event::Start);
+    let addressed = sent(opened, Event::Byte(bench.address));
     let chosen = sent(addressed, Event::Byte(register));
     let again = sent(chosen, Event::Start);
-    let decided = sent(again, Event::Byte(address / 2 * 2 + 1));
-    let taken = send(decided, Event::Take(false));
+    let decided = sent(again, Event::Byte(bench.address / 2 * 2 + 1));
+    let taken = send(decided, word_for(Event::Take(false)));
     let answer = taken.answer;
-    let next = taken.controller;
+    let next = taken.bench;
     tell_end(before, next);
     tell_taken(register, answer);
     next
@@ -135,57 +145,56 @@ fn tell_tick(i: u16, answer: Answer, before: Seen, after: Seen) -> bool {
 }
 
 // So many TICKs.
-fn ticks(controller: Controller, count: u16) -> Controller
-    ensures { λ r. ⌜ r ≡ after controller (replicate count (wordFor Tick)) ⌝ }
+fn ticks(bench: Bench, count: u16) -> Bench
+    ensures { λ r. ⌜ r ≡ afterWords bench (replicate count (wordFor Tick)) ⌝ }
 {
-    let word = event::pack(Event::Tick).word();
-    let mut state = controller;
+    let word = word_for(Event::Tick);
+    let mut state = bench;
     let mut quiet = true;
     let mut i: u16 = 0;
     while i < count {
-        let before = look(state);
-        let stepped = state.step(word);
-        let answer = stepped.answer;
-        state = stepped.controller;
+        let before = look(state.controller);
+        let sent = step(state, word);
+        let answer = sent.answer;
+        state = sent.bench;
         i += 1;
-        quiet = !tell_tick(i, answer, before, look(state)) & quiet;
+        quiet = !tell_tick(i, answer, before, look(state.controller)) & quiet;
     }
     say_if(quiet, b"  no change\n");
     state
 }
 
 impl Bench {
+    // A bench that nothing has been done to.
+    pub(crate) fn fresh() -> Bench
+        ensures { λ r. ⌜ r ≡ freshBench ⌝ }
+    {
+        Bench {
+            controller: Controller::fresh(),
+            address: 0x90,
+            levels: AT_REST,
+        }
+    }
+
     pub(crate) fn obey(self, order: Order) -> Bench
         ensures { λ r. ⌜ r ≡ obeyed order self ⌝ }
     {
         let controller = self.controller;
-        let address = self.address;
+        let levels = self.levels;
         match order {
-            Order::Event(event) => Bench {
-                controller: one(controller, event),
-                address,
-            },
-            Order::Ticks(count) => Bench {
-                controller: ticks(controller, count),
-                address,
-            },
-            Order::Word(word) => Bench {
-                controller: raw(controller, word),
-                address,
-            },
-            Order::Write { register, value } => Bench {
-                controller: write(controller, address, register, value),
-                address,
-            },
-            Order::Read(register) => Bench {
-                controller: read(controller, address, register),
-                address,
-            },
-            Order::Address(next) => {
-                tell_address(next);
+            Order::Event(event) => one(self, word_for(event)),
+            Order::Pull(inputs) => one(self, word_for(Event::Pins(pulled(levels, inputs)))),
+            Order::Raise(inputs) => one(self, word_for(Event::Pins(raised(levels, inputs)))),
+            Order::Ticks(count) => ticks(self, count),
+            Order::Word(word) => one(self, word),
+            Order::Write { register, value } => write(self, register, value),
+            Order::Read(register) => read(self, register),
+            Order::Address(address) => {
+                tell_address(address);
                 Bench {
                     controller,
-                    address: next,
+                    address,
+                    levels,
                 }
             }
             Order::Outputs => {

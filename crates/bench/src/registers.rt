@@ -2,6 +2,7 @@
 use crate::bays::read;
 use crate::bays::say_bay;
 use crate::bays::say_state;
+use crate::bays::tell_unstarted;
 use crate::say::say;
 use crate::say::say_byte;
 use crate::say::say_count;
@@ -101,6 +102,10 @@ fn tell_now(controller: Controller, register: u8) {
 
 // Every register that a dock has.
 pub(crate) fn tell_registers(controller: Controller) {
+    if !controller.machine.started {
+        tell_unstarted();
+        return;
+    }
     tell_now(controller, Machine::VENDOR_LOW);
     tell_now(controller, Machine::VENDOR_HIGH);
     tell_now(controller, Machine::REVISION);

@@ -2,8 +2,13 @@
 use hex::digit;
 use libc::STDOUT_FILENO;
 
+// Answers whether it was taken: it is not where nobody reads any more.
+pub(crate) fn said(text: &[u8]) -> bool {
+    io::write_all(STDOUT_FILENO, text)
+}
+
 pub(crate) fn say(text: &[u8]) {
-    io::write_all(STDOUT_FILENO, text);
+    said(text);
 }
 
 pub(crate) fn say_if(yes: bool, text: &[u8]) {

@@ -1,3 +1,4 @@
 pub mod Cases
 pub mod Address
+pub mod Numbers
 pub mod Determined

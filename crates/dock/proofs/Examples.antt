@@ -1,4 +1,4 @@
--- P1 to P12 hold, by computing each from its words. Assumes nothing.
+-- P1 to P12 hold, and so do the examples of our own, by computing each from its words. Assumes nothing.
 use mathlib.Core.Path.{_≡_, refl}
 use mathlib.Core.Bool.{true}
 use Rattle.event.specs.Words.{unpacked}
@@ -18,7 +18,12 @@ use Rattle.dock.specs.Events.{stopDeed, byteAt, takeReply, turnOf, next}
 use Rattle.dock.specs.Step.{takes, stepOf}
 use Rattle.dock.specs.Run.{after}
 use Rattle.dock.specs.Examples.{allHold, examples}
+use Rattle.dock.specs.Ours.{ours}
 
 pub examples-hold : allHold examples ≡ true
 unfolding examples unpacked lockDef lockMode present emptyBay resetBay bayFit debounce restart sampledBay inUse stateAfter movedBay tickedBay bstrOf bcerOf bstrWritten controlOf asks requestWritten stateWritten pulseWritten controlledBay lockPin green yellow bayOutputs interrupts ownWrite ownRead started heard bayIn placed openBy freshMachine fits nibble wants outputs dbccrOf bstrAt bcerAt registers register reading dbccrStored dbccrWrite letrWrite pulseTicks bstrWrite bcerWrite writes written resetTo sampledAt tickedAt pinsTo nextPhase tickTo does freshController stopDeed byteAt takeReply turnOf next takes stepOf after
 examples-hold = refl
+
+pub ours-hold : allHold ours ≡ true
+unfolding ours unpacked lockDef lockMode present emptyBay resetBay bayFit debounce restart sampledBay inUse stateAfter movedBay tickedBay bstrOf bcerOf bstrWritten controlOf asks requestWritten stateWritten pulseWritten controlledBay lockPin green yellow bayOutputs interrupts ownWrite ownRead started heard bayIn placed openBy freshMachine fits nibble wants outputs dbccrOf bstrAt bcerAt registers register reading dbccrStored dbccrWrite letrWrite pulseTicks bstrWrite bcerWrite writes written resetTo sampledAt tickedAt pinsTo nextPhase tickTo does freshController stopDeed byteAt takeReply turnOf next takes stepOf after
+ours-hold = refl

@@ -4,7 +4,7 @@ use Prim.Native.Nat.{ℕ}
 use native.Mathlib.Omega.{arith}
 use mathlib.Core.Path.{_≡_, refl, sym, ap, _∙_}
 use mathlib.Core.Logic.{_≢_, _⊎_, inl, inr, ⊎-elim}
-use mathlib.Core.Bool.{Bool, true, false, true≢false, false≢true}
+use mathlib.Core.Bool.{Bool, true, false, cond, true≢false, false≢true}
 use Rattle.event.specs.Words.{unpacked, StrayBitSet}
 use Rattle.event.specs.declared.Event.{Event}
 use Rattle.event.specs.declared.Event.the-variants.{Start, Stop, Byte, Take, Pins, Tick, Reset, Timeout}
@@ -14,11 +14,17 @@ use Rattle.event.proofs.Theorems.{words-refused}
 use Rattle.event.proofs.RoundTrip.{accepted-is-none}
 use Rattle.bay.proofs.Taut.{pick}
 use Rattle.machine.specs.Record.{fits}
-use Rattle.dock.specs.Answers.{refusalOf}
-use Rattle.dock.specs.Step.{takes, stepFit, stepOf}
+use Rattle.machine.specs.Outputs.{outputs}
+use Rattle.machine.specs.Registers.{reading}
+use Rattle.dock.specs.Answers.{refusalOf, replyOf, byteOf, outputsOf, toldRefusal, toldValue}
+use Rattle.dock.specs.Step.{takes, refused, stepFit, stepOf, toldReading, toldOutputs}
 use Rattle.dock.specs.Refusals.{IsReset, Exactly}
 use Rattle.dock.specs.declared.Controller.{Controller}
 use Rattle.dock.specs.declared.Stepped.{Stepped}
+use Rattle.dock.specs.declared.Answer.{Answer}
+use Rattle.dock.specs.declared.Answer.the-variants.{Unfit}
+use Rattle.dock.specs.declared.Told.{Told}
+use Rattle.dock.specs.declared.Told.the-variants.{Value, Unfit as NotFit}
 
 -- A refused word leaves the state as it came.
 pub refused-unchanged : (s : Controller) (w : ℕ) → refusalOf (stepOf s w .answer) ≢ 0 → stepOf s w .controller ≡ s
@@ -31,6 +37,55 @@ refused-unchanged s w = pick Unchanged (fits (s .machine)) (λ f. by-word (unpac
     by-word : (u : Unpacked) → Unchanged (stepFit s u)
     by-word NoEvent = λ n. refl
     by-word (Accepted e) = pick Unchanged (takes (s .machine .started) e) (λ t n. absurd (n refl)) (λ t n. refl)
+
+-- The other three numbers of an answer.
+pub record Numbers (a : Answer) (reply byte out : ℕ) : Type 0 where
+  pub reply-is : replyOf a ≡ reply
+  pub byte-is : byteOf a ≡ byte
+  pub outputs-are : outputsOf a ≡ out
+
+-- What comes back with each number: with 1 and 3 all is 0, with 2 the outputs are those of the state, and with 0 those of the next state.
+pub record ComesBack (s : Controller) (x : Stepped) : Type 0 where
+  pub one : refusalOf (x .answer) ≡ 1 → Numbers (x .answer) 0 0 0
+  pub two : refusalOf (x .answer) ≡ 2 → Numbers (x .answer) 0 0 (outputs (s .machine))
+  pub three : refusalOf (x .answer) ≡ 3 → Numbers (x .answer) 0 0 0
+  pub none : refusalOf (x .answer) ≡ 0 → outputsOf (x .answer) ≡ outputs (x .controller .machine)
+
+pub comes-back : (s : Controller) (w : ℕ) → ComesBack s (stepOf s w)
+unfolding stepOf
+comes-back s w = pick (ComesBack s) (fits (s .machine)) (λ f. by-word (unpacked w)) (λ f. refused-1)
+  where
+    refused-1 : ComesBack s (refused s Unfit)
+    refused-1 =
+        record {
+          one = λ n. record { reply-is = refl; byte-is = refl; outputs-are = refl };
+          two = λ n. absurd (omega (arith, n));
+          three = λ n. absurd (omega (arith, n));
+          none = λ n. absurd (omega (arith, n));
+        }
+
+    by-word : (u : Unpacked) → ComesBack s (stepFit s u)
+    by-word NoEvent =
+        record {
+          one = λ n. absurd (omega (arith, n));
+          two = λ n. record { reply-is = refl; byte-is = refl; outputs-are = refl };
+          three = λ n. absurd (omega (arith, n));
+          none = λ n. absurd (omega (arith, n));
+        }
+    by-word (Accepted e) =
+        pick (ComesBack s) (takes (s .machine .started) e)
+        (λ t. record {
+          one = λ n. absurd (omega (arith, n));
+          two = λ n. absurd (omega (arith, n));
+          three = λ n. absurd (omega (arith, n));
+          none = λ n. refl;
+        })
+        (λ t. record {
+          one = λ n. absurd (omega (arith, n));
+          two = λ n. absurd (omega (arith, n));
+          three = λ n. record { reply-is = refl; byte-is = refl; outputs-are = refl };
+          none = λ n. absurd (omega (arith, n));
+        })
 
 -- What is taken: anything once started, and before that a RESET.
 Taken : Bool → Event → Type 0
@@ -127,3 +182,21 @@ module _ (s : Controller) (w : ℕ) where
   pub exactly : Exactly s w (refusalOf (stepOf s w .answer))
   unfolding stepOf
   exactly = pick (λ (x : Stepped). Exactly s w (refusalOf (x .answer))) (fits (s .machine)) (λ f. by-word f (unpacked w) refl) (λ f. unfit f)
+
+-- ---- questions
+
+-- A question about a fit state gives its value with 0; an unfit state is refused with 1 and value 0.
+pub record Answers (s : Controller) (t : Told) (value : ℕ) : Type 0 where
+  pub refused-1 : fits (s .machine) ≡ false → (toldRefusal t ≡ 1) × (toldValue t ≡ 0)
+  pub told : fits (s .machine) ≡ true → (toldRefusal t ≡ 0) × (toldValue t ≡ value)
+
+told-of : (s : Controller) (value : ℕ) → Answers s (cond (fits (s .machine)) (Value value) NotFit) value
+told-of s value = record { refused-1 = λ f. rw f (refl, refl); told = λ f. rw f (refl, refl) }
+
+pub reading-told : (s : Controller) (a : ℕ) → Answers s (toldReading s a) (reading (s .machine) a)
+unfolding toldReading
+reading-told s a = told-of s (reading (s .machine) a)
+
+pub outputs-told : (s : Controller) → Answers s (toldOutputs s) (outputs (s .machine))
+unfolding toldOutputs
+outputs-told s = told-of s (outputs (s .machine))

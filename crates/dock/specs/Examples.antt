@@ -8,9 +8,12 @@ use lib.ListN.{replicate}
 use Rattle.bits.specs.Bits.{bit}
 use Rattle.machine.specs.Outputs.{outputs}
 use Rattle.machine.specs.Registers.{reading}
-use Rattle.machine.specs.declared.Machine.{Machine}
+use Rattle.dock.specs.Answers.{refusalOf, replyOf, byteOf, outputsOf}
+use Rattle.dock.specs.Step.{stepOf}
 use Rattle.dock.specs.Record.{freshController}
 use Rattle.dock.specs.Run.{after}
+use Rattle.dock.specs.declared.Controller.{Controller}
+use Rattle.dock.specs.declared.Answer.{Answer}
 
 -- ---- the paper's notation as event words
 
@@ -36,23 +39,32 @@ pub data Shows : Type 0 where
   reads : ℕ → ℕ → Shows
   -- lock pin 0, bit 7 of the outputs, is high
   lock-pin-0 : Bool → Shows
+  -- the nine outputs
+  drives : ℕ → Shows
+  -- one word more is answered with this refusal, reply, byte and outputs
+  answers : ℕ → ℕ → ℕ → ℕ → ℕ → Shows
 
 pub record Example : Type 0 where
   pub words : List ℕ
   pub shows : Shows
 
-abbrev shown : Machine → Shows → Bool
-shown m (reads a v) = eqb (reading m a) v
-shown m (lock-pin-0 high) = Bool·beq (bit 7 (outputs m)) high
+abbrev numbers : Answer → ℕ → ℕ → ℕ → ℕ → Bool
+numbers a refusal reply byte out = eqb (refusalOf a) refusal && eqb (replyOf a) reply && eqb (byteOf a) byte && eqb (outputsOf a) out
+
+abbrev shown : Controller → Shows → Bool
+shown s (reads a v) = eqb (reading (s .machine) a) v
+shown s (lock-pin-0 high) = Bool·beq (bit 7 (outputs (s .machine))) high
+shown s (drives n) = eqb (outputs (s .machine)) n
+shown s (answers word refusal reply byte out) = numbers (stepOf s word .answer) refusal reply byte out
 
 abbrev pub Holds : Example → Bool
-Holds e = shown (after freshController (e .words) .machine) (e .shows)
+Holds e = shown (after freshController (e .words)) (e .shows)
 
 abbrev pub allHold : List Example → Bool
 allHold [] = true
 allHold (e ∷ es) = Holds e && allHold es
 
-abbrev gives : List ℕ → Shows → Example
+abbrev pub gives : List ℕ → Shows → Example
 gives ws s = record { words = ws; shows = s }
 
 -- ---- the examples

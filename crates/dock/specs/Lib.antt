@@ -5,3 +5,5 @@ pub mod Step
 pub mod Refusals
 pub mod Run
 pub mod Examples
+pub mod Ours
+pub mod Moves

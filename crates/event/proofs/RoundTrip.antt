@@ -69,7 +69,7 @@ reset-back s l p q =
     let low : (s * 256 + l) % 256 ≡ l = omega arith in
     unpacks-back 6 (s * 256 + l) (omega arith) (omega arith) ∙ rw (high, low)
 
-accepted-back : (e : Event) → Bytes e → strapsOf e < 16 → unpacked (wordOf e) ≡ Accepted e
+pub accepted-back : (e : Event) → Bytes e → strapsOf e < 16 → unpacked (wordOf e) ≡ Accepted e
 unfolding wordOf strapsOf Bytes
 accepted-back Start t s = unpacks-back 0 0 (omega arith) (omega arith)
 accepted-back Stop t s = unpacks-back 1 0 (omega arith) (omega arith)

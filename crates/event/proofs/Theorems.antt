@@ -1,22 +1,23 @@
 -- The theorems on event words (document 01, "Event words"; demand 2: "Events and packed words that aren't refused convert each
 -- into the other without change"). They are about the definitions of `specs/Words.antt`, which the contracts of `unpack` and
 -- `pack` give as the whole answer. Assumes nothing.
-use Prim.Native.Nat.{ℕ, _^_, _<_}
+use Prim.Native.Nat.{ℕ, _+_, _*_, _^_, _<_}
 use native.Mathlib.Omega.{arith}
-use mathlib.Core.Path.{_≡_, refl, _∙_, sym}
+use mathlib.Core.Path.{_≡_, refl, ap, _∙_, sym}
 use mathlib.Core.Logic.{_↔_}
 use mathlib.Core.Bool.{Bool, true, false}
 use lib.Dec.{ltb}
 use borrow.Author.Tests.{ltb-true, ltb-false}
 use Rattle.bits.specs.Straps.{MOST-STRAPS}
-use Rattle.event.specs.Words.{kindOf, fieldOf, bitsOf, eventOf, accept, unpacked, StrayBitSet, wordOf, strapsOf, wordUnless, packed, Bytes}
+use Rattle.event.specs.Words.{kindOf, fieldOf, bitsOf, eventOf, accept, unpacked, StrayBitSet, wordOf, strapsOf, wordUnless, packed, Bytes, unpackRefusal, packRefusal, packWord}
 use Rattle.event.specs.declared.Event.{Event}
+use Rattle.event.specs.declared.Event.the-variants.{Start, Stop, Byte, Take, Pins, Tick, Reset, Timeout}
 use Rattle.event.specs.declared.Unpacked.{Unpacked}
 use Rattle.event.specs.declared.Unpacked.the-variants.{Accepted, StrayBit}
 use Rattle.event.specs.declared.Packed.{Packed}
 use Rattle.event.specs.declared.Packed.the-variants.{Word, StrapsTooLarge}
 use Rattle.event.proofs.Bits.{high-bit, no-high-bit}
-use Rattle.event.proofs.RoundTrip.{word-back, event-back, accepted-is-none, word-is-none}
+use Rattle.event.proofs.RoundTrip.{word-back, accepted-back, event-back, accepted-is-none, word-is-none}
 use Rattle.event.proofs.unpack.Reads as unpack-reads
 use Rattle.event.proofs.pack.Reads as pack-reads
 use Rattle.event.proofs.Unpacked.refusal.Reads as unpack-refusal
@@ -31,6 +32,33 @@ unpack-then-pack = word-back
 pub pack-then-unpack : (e : Event) → Bytes e → (w : ℕ) → packed e ≡ Word w → unpacked w ≡ Accepted e
 pack-then-unpack = event-back
 
+-- The table, word by word: what each kind is, where its data stand.
+pub record Table : Type 0 where
+  pub start : unpacked 0x0000 ≡ Accepted Start
+  pub stop : unpacked 0x2000 ≡ Accepted Stop
+  pub byte : (b : ℕ) → b < 256 → unpacked (0x4000 + b) ≡ Accepted (Byte b)
+  pub take-nack : unpacked 0x6000 ≡ Accepted (Take false)
+  pub take-ack : unpacked 0x6001 ≡ Accepted (Take true)
+  pub pins : (levels : ℕ) → levels < 256 → unpacked (0x8000 + levels) ≡ Accepted (Pins levels)
+  pub tick : unpacked 0xA000 ≡ Accepted Tick
+  pub reset : (straps levels : ℕ) → straps < 16 → levels < 256 → unpacked (0xC000 + (straps * 256 + levels)) ≡ Accepted (Reset straps levels)
+  pub timeout : unpacked 0xE000 ≡ Accepted Timeout
+
+pub by-kind : Table
+unfolding wordOf strapsOf Bytes
+by-kind =
+    record {
+      start = accepted-back Start tt (omega arith);
+      stop = accepted-back Stop tt (omega arith);
+      byte = λ b l. accepted-back (Byte b) l (omega arith);
+      take-nack = accepted-back (Take false) tt (omega arith);
+      take-ack = accepted-back (Take true) tt (omega arith);
+      pins = λ levels l. accepted-back (Pins levels) l (omega arith);
+      tick = accepted-back Tick tt (omega arith);
+      reset = λ straps levels h l. accepted-back (Reset straps levels) (omega (arith, h), l) h;
+      timeout = accepted-back Timeout tt (omega arith);
+    }
+
 -- A word is refused exactly when a bit that must be 0 is set.
 pub words-refused : (w : ℕ) → (unpacked w ≡ StrayBit) ↔ StrayBitSet w
 unfolding unpacked
@@ -40,6 +68,14 @@ words-refused w = go (ltb (fieldOf w) (2 ^ bitsOf (kindOf w))) refl
     go true t = (λ p. absurd (accepted-is-none p), λ s. absurd (no-high-bit _ _ (ltb-true _ _ t) s))
     go false t = (λ p. high-bit 13 _ _ (ltb-false _ _ t) (omega arith), λ s. refl)
 
+-- By number: with 2.
+pub refused-with-2 : (w : ℕ) → (unpackRefusal (unpacked w) ≡ 2) ↔ StrayBitSet w
+refused-with-2 w = (λ n. words-refused w .0 (stray (unpacked w) n), λ b. ap unpackRefusal (words-refused w .1 b))
+  where
+    stray : (u : Unpacked) → unpackRefusal u ≡ 2 → u ≡ StrayBit
+    stray (Accepted e) n = absurd (omega (arith, n))
+    stray StrayBit n = refl
+
 -- An event is refused exactly when its straps exceed 15.
 pub events-refused : (e : Event) → (packed e ≡ StrapsTooLarge) ↔ (15 < strapsOf e)
 unfolding packed
@@ -48,6 +84,14 @@ events-refused e = go (ltb MOST-STRAPS (strapsOf e)) refl
     go : (b : Bool) → ltb MOST-STRAPS (strapsOf e) ≡ b → (wordUnless b (wordOf e) ≡ StrapsTooLarge) ↔ (15 < strapsOf e)
     go true t = (λ p. ltb-true _ _ t, λ h. refl)
     go false t = (λ p. absurd (word-is-none p), λ h. absurd (omega (arith, ltb-false MOST-STRAPS (strapsOf e) t)))
+
+-- By number: with 6, and the word is then 0.
+pub refused-with-6 : (e : Event) → ((packRefusal (packed e) ≡ 6) ↔ (15 < strapsOf e)) × (packRefusal (packed e) ≡ 6 → packWord (packed e) ≡ 0)
+refused-with-6 e = ((λ n. events-refused e .0 (wide (packed e) n), λ l. ap packRefusal (events-refused e .1 l)), λ n. ap packWord (wide (packed e) n))
+  where
+    wide : (p : Packed) → packRefusal p ≡ 6 → p ≡ StrapsTooLarge
+    wide (Word w) n = absurd (omega (arith, n))
+    wide StrapsTooLarge n = refl
 
 -- The contract of each call, as the checker reads it, determines the call's answer.
 pub unpack-determined : (w : ℕ) (r s : Unpacked) → unpack-reads.Post tt (w, tt) r (w, tt) → unpack-reads.Post tt (w, tt) s (w, tt) → r ≡ s

@@ -29,6 +29,19 @@ put-each P i b bs p j = go (eqb i 0) (eqb j 0)
     go false true h = h
     go false false h = p
 
+-- A bay put in the place of one with the same state leaves every state as it was.
+pub put-keeps : (i j : ℕ) (b : Bay) (bs : List Bay) → b .state ≡ bayIn bs i .state → bayIn (placed i b bs) j .state ≡ bayIn bs j .state
+unfolding bayIn placed two
+put-keeps i j b bs = go (eqb i 0) (eqb j 0)
+  where
+    go :
+        (t u : Bool) → b .state ≡ cond t (bay0 bs) (bay1 bs) .state
+        → cond u (bay0 (two t b bs)) (bay1 (two t b bs)) .state ≡ cond u (bay0 bs) (bay1 bs) .state
+    go true true h = h
+    go true false h = refl
+    go false true h = refl
+    go false false h = h
+
 -- Bay i is then the one that was put there; the other is as it was.
 pub put-bay : (i : ℕ) (b : Bay) (bs : List Bay) → bayIn (placed i b bs) i ≡ b
 unfolding bayIn placed two

@@ -8,4 +8,7 @@ pub mod Ranges
 pub mod Dbccr
 pub mod Straps
 pub mod Laws
+pub mod Map
+pub mod Drives
+pub mod Moves
 pub mod Determined

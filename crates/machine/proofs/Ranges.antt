@@ -60,11 +60,11 @@ pub reading-byte : (m : Machine) (a : ℕ) → reading m a < 256
 unfolding reading
 reading-byte m a = pick (λ n. n < 256) (m .started) (λ t. register-byte m a) (λ t. omega arith)
 
-nibble-small : (m : Machine) (i : ℕ) → nibble m i < 16
+pub nibble-small : (m : Machine) (i : ℕ) → nibble m i < 16
 unfolding nibble
 nibble-small m i = pick (λ n. n < 16) (isOpen m i) (λ o. outputs-nibble _ _ (bayAt m i)) (λ o. omega arith)
 
-bit-small : (b : Bool) → put 0 b < 2
+pub bit-small : (b : Bool) → put 0 b < 2
 bit-small true = omega arith
 bit-small false = omega arith
 

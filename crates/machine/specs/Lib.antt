@@ -4,3 +4,4 @@ pub mod Registers
 pub mod Acts
 pub mod Sound
 pub mod Kept
+pub mod Moves

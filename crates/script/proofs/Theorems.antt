@@ -13,14 +13,15 @@ use Rattle.hex.specs.Digit.{digitFor}
 use Rattle.script.specs.Text.{characters, blank, leading, trimmed, first, rest, spelled, spelled64}
 use Rattle.script.specs.Verbs.{name, verbs, verbOf}
 use Rattle.script.specs.Arguments.{digitOf, isOctet, octetOf, wordOf, pairOf, countFrom, countOf, ticksOf}
-use Rattle.script.specs.Lines.{given, resetLine, takeLine, writeLine, orderLine, plain, textLine, lineOf}
+use Rattle.script.specs.Hands.{only, bayOf, kindOf, pulls, raises, insertLine, handLine}
+use Rattle.script.specs.Lines.{given, resetLine, takeLine, writeLine, orderLine, verbLine, plain, textLine, lineOf}
 use Rattle.script.specs.Examples.{Example, examples}
 use Rattle.script.specs.declared.Line.{Line}
 use Rattle.script.proofs.lines.meaning.Reads as meaning-reads
 
 -- Each of the examples means what it is said to mean.
 pub examples-hold : map (λ (e : Example). lineOf (characters (e .typed))) examples ≡ map (λ (e : Example). e .means) examples
-unfolding examples indexOf lineOf plain textLine orderLine given resetLine takeLine writeLine octetOf isOctet digitOf wordOf pairOf ticksOf countOf countFrom verbOf verbs name spelled spelled64 trimmed first rest leading blank
+unfolding examples indexOf lineOf plain textLine verbLine orderLine handLine insertLine pulls raises only bayOf kindOf given resetLine takeLine writeLine octetOf isOctet digitOf wordOf pairOf ticksOf countOf countFrom verbOf verbs name spelled spelled64 trimmed first rest leading blank
 examples-hold = refl
 
 -- ---- a verb is known by its number

@@ -1,12 +1,13 @@
--- Lines as a person types them, and what each means: one of each verb, then lines that are blank, unknown or misused.
+-- Lines as a person types them, and what each means: one of each verb, of the hand's for both bays, then lines that are blank, unknown or misused.
 use Prim.Native.String.{String}
 use mathlib.Core.Bool.{true, false}
 use mathlib.Core.List.{List, [], _∷_}
 use Rattle.event.specs.declared.Event.the-variants as event
 use Rattle.script.specs.declared.Verb.the-variants as verb
+use Rattle.script.specs.declared.Hand.the-variants as hand
 use Rattle.script.specs.declared.Order.the-variants as order
 use Rattle.script.specs.declared.Line.{Line}
-use Rattle.script.specs.declared.Line.the-variants.{Blank, Unknown, Misused, Does}
+use Rattle.script.specs.declared.Line.the-variants.{Blank, Unknown, Misused, Mishandled, Does}
 
 pub record Example : Type 0 where
   pub typed : String
@@ -20,6 +21,20 @@ examples =
     line "reset C0BF" (Does (order.Event (event.Reset 0 0xBF)))
     ∷ line "reset cdff" (Does (order.Event (event.Reset 13 0xFF)))
     ∷ line "pins BF" (Does (order.Event (event.Pins 0xBF)))
+    ∷ line "insert 0 1394" (Does (order.Pull 0x80))
+    ∷ line "insert 0 usb" (Does (order.Pull 0x40))
+    ∷ line "press 0" (Does (order.Pull 0x20))
+    ∷ line "secure 0" (Does (order.Pull 0x10))
+    ∷ line "insert 1 1394" (Does (order.Pull 0x08))
+    ∷ line "insert 1 usb" (Does (order.Pull 0x04))
+    ∷ line "press 1" (Does (order.Pull 0x02))
+    ∷ line "secure 1" (Does (order.Pull 0x01))
+    ∷ line "remove 0" (Does (order.Raise 0xC0))
+    ∷ line "release 0" (Does (order.Raise 0x20))
+    ∷ line "unsecure 0" (Does (order.Raise 0x10))
+    ∷ line "remove 1" (Does (order.Raise 0x0C))
+    ∷ line "release 1" (Does (order.Raise 0x02))
+    ∷ line "unsecure 1" (Does (order.Raise 0x01))
     ∷ line "tick 10" (Does (order.Ticks 10))
     ∷ line "tick 65535" (Does (order.Ticks 65535))
     ∷ line "tick" (Does (order.Ticks 1))
@@ -53,5 +68,11 @@ examples =
     ∷ line "tick A" (Misused verb.Tick)
     ∷ line "take yes" (Misused verb.Take)
     ∷ line "r 10 10" (Misused verb.R)
+    ∷ line "insert 0" (Mishandled hand.Insert)
+    ∷ line "insert usb 0" (Mishandled hand.Insert)
+    ∷ line "insert 0 usb 1394" (Mishandled hand.Insert)
+    ∷ line "remove 2" (Mishandled hand.Remove)
+    ∷ line "press" (Mishandled hand.Press)
+    ∷ line "press 0 1" (Mishandled hand.Press)
     ∷ line "out 1" (Misused verb.Out)
     ∷ []

@@ -10,6 +10,7 @@ use Rattle.event.specs.declared.Event.the-variants as event
 use Rattle.script.specs.Text.{trimmed, first, rest, spelled64}
 use Rattle.script.specs.Verbs.{name, verbOf}
 use Rattle.script.specs.Arguments.{octetOf, wordOf, pairOf, ticksOf}
+use Rattle.script.specs.Hands.{handLine}
 use Rattle.script.specs.declared.Verb.{Verb}
 use Rattle.script.specs.declared.Verb.the-variants.{Reset, Pins, Tick, Timeout, Start, Stop, Byte, Take, Word, W, R, At, Out, Regs, Help}
 use Rattle.script.specs.declared.Order.{Order}
@@ -17,7 +18,7 @@ use Rattle.script.specs.declared.Order.the-variants.{Event, Ticks, Word 
 use Rattle.script.specs.declared.Line.{Line}
 use Rattle.script.specs.declared.Line.the-variants.{Blank, Unknown, Misused, Does}
 use Rattle.script.specs.declared.Named.{Named}
-use Rattle.script.specs.declared.Named.the-variants.{This, Nothing}
+use Rattle.script.specs.declared.Named.the-variants.{This, AtBay, Nothing}
 
 -- An order, where what follows its verb is what the verb takes.
 unfoldable pub given : Verb → Bool → Order → Line
@@ -64,16 +65,21 @@ orderLine Regs t = aloneLine Regs t Registers
 orderLine Help t = aloneLine Help t Verbs
 
 -- No verb takes more than one word.
-abbrev pub verbLine : Named → List ℕ → Line
-verbLine Nothing t = Unknown
-verbLine (This v) t = cond (eqb (length (trimmed (rest t))) 0) (orderLine v (first t)) (Misused v)
+unfoldable pub verbLine : Verb → List ℕ → Line
+verbLine v t = cond (eqb (length (trimmed (rest t))) 0) (orderLine v (first t)) (Misused v)
+
+-- A name and what follows it.
+abbrev pub namedLine : Named → List ℕ → Line
+namedLine Nothing t = Unknown
+namedLine (This v) t = verbLine v t
+namedLine (AtBay h) t = handLine h t
 
 -- A comment begins with `#` and is no part of what the line says.
 unfoldable pub plain : List ℕ → List ℕ
 plain l = take (indexOf (code "#") l) l
 
 unfoldable pub textLine : List ℕ → Line
-textLine t = cond (eqb (length (first t)) 0) Blank (verbLine (verbOf (spelled64 (first t))) (rest t))
+textLine t = cond (eqb (length (first t)) 0) Blank (namedLine (verbOf (spelled64 (first t))) (rest t))
 
 unfoldable pub lineOf : List ℕ → Line
 lineOf l = textLine (plain l)

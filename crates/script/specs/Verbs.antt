@@ -5,10 +5,10 @@ use mathlib.Core.Bool.{cond}
 use mathlib.Core.List.{List, [], _∷_}
 use lib.Dec.{eqb}
 use Rattle.script.specs.Text.{characters, spelled}
-use Rattle.script.specs.declared.Verb.{Verb}
 use Rattle.script.specs.declared.Verb.the-variants.{Reset, Pins, Tick, Timeout, Start, Stop, Byte, Take, Word, W, R, At, Out, Regs, Help}
+use Rattle.script.specs.declared.Hand.the-variants.{Insert, Remove, Press, Release, Secure, Unsecure}
 use Rattle.script.specs.declared.Named.{Named}
-use Rattle.script.specs.declared.Named.the-variants.{This, Nothing}
+use Rattle.script.specs.declared.Named.the-variants.{This, AtBay, Nothing}
 
 -- A text as `spelled` makes a number of it.
 unfoldable pub name : String → ℕ
@@ -16,33 +16,39 @@ name t = spelled (characters t)
 
 pub record Entry : Type 0 where
   pub text : String
-  pub verb : Verb
+  pub stands : Named
 
-abbrev entry : String → Verb → Entry
-entry t v = record { text = t; verb = v }
+abbrev entry : String → Named → Entry
+entry t n = record { text = t; stands = n }
 
 unfoldable pub verbs : List Entry
 verbs =
-    entry "reset" Reset
-    ∷ entry "pins" Pins
-    ∷ entry "tick" Tick
-    ∷ entry "timeout" Timeout
-    ∷ entry "start" Start
-    ∷ entry "stop" Stop
-    ∷ entry "byte" Byte
-    ∷ entry "take" Take
-    ∷ entry "word" Word
-    ∷ entry "w" W
-    ∷ entry "r" R
-    ∷ entry "at" At
-    ∷ entry "out" Out
-    ∷ entry "regs" Regs
-    ∷ entry "help" Help
+    entry "reset" (This Reset)
+    ∷ entry "pins" (This Pins)
+    ∷ entry "tick" (This Tick)
+    ∷ entry "timeout" (This Timeout)
+    ∷ entry "start" (This Start)
+    ∷ entry "stop" (This Stop)
+    ∷ entry "byte" (This Byte)
+    ∷ entry "take" (This Take)
+    ∷ entry "word" (This Word)
+    ∷ entry "w" (This W)
+    ∷ entry "r" (This R)
+    ∷ entry "at" (This At)
+    ∷ entry "out" (This Out)
+    ∷ entry "regs" (This Regs)
+    ∷ entry "help" (This Help)
+    ∷ entry "insert" (AtBay Insert)
+    ∷ entry "remove" (AtBay Remove)
+    ∷ entry "press" (AtBay Press)
+    ∷ entry "release" (AtBay Release)
+    ∷ entry "secure" (AtBay Secure)
+    ∷ entry "unsecure" (AtBay Unsecure)
     ∷ []
 
 abbrev pub among : List Entry → ℕ → Named
 among [] n = Nothing
-among (e ∷ es) n = cond (eqb n (name (e .text))) (This (e .verb)) (among es n)
+among (e ∷ es) n = cond (eqb n (name (e .text))) (e .stands) (among es n)
 
 unfoldable pub verbOf : ℕ → Named
 verbOf n = among verbs n

@@ -1,6 +1,7 @@
 // The bench's language: what a line that a person typed asks for, or what is wrong with it. docs/BENCH.md describes
 // it for people; specs/ has the same as definitions.
 mod arguments;
+mod hands;
 mod lines;
 mod text;
 mod verbs;
@@ -27,10 +28,24 @@ pub enum Verb {
     Help,
 }
 
+// The word that a line about a bay begins with: what a person does there.
+pub enum Hand {
+    Insert,
+    Remove,
+    Press,
+    Release,
+    Secure,
+    Unsecure,
+}
+
 // What a line asks for.
 pub enum Order {
     // One event.
     Event(Event),
+    // These inputs go to 0, asserted, and the other levels stay; each input by its weight in the levels.
+    Pull(u8),
+    // They go to 1.
+    Raise(u8),
     // So many TICKs.
     Ticks(u16),
     // A word as it is, also one that is refused.
@@ -57,12 +72,15 @@ pub enum Line {
     Unknown,
     // What follows the verb is not what it takes.
     Misused(Verb),
+    // What follows the hand's word is not what it takes.
+    Mishandled(Hand),
     Does(Order),
 }
 
 // What a name stands for.
 enum Named {
     This(Verb),
+    AtBay(Hand),
     Nothing,
 }
 

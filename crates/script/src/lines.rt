@@ -1,6 +1,6 @@
 // What a line means: a verb, what it takes, and a comment after `#`.
 ghost use mathlib.Core.Path.{_≡_};
-ghost use Rattle.script.specs.Lines.{given, resetLine, takeLine, writeLine, orderLine, plain, lineOf};
+ghost use Rattle.script.specs.Lines.{given, resetLine, takeLine, writeLine, orderLine, verbLine, plain, lineOf};
 use crate::Line;
 use crate::Named;
 use crate::Order;
@@ -9,6 +9,7 @@ use crate::arguments::octet;
 use crate::arguments::pair;
 use crate::arguments::ticks;
 use crate::arguments::word;
+use crate::hands::at_bay;
 use crate::text::after_first;
 use crate::text::first_word;
 use crate::text::spell;
@@ -108,7 +109,18 @@ fn before_comment(line: &[u8]) -> &[u8]
     &line[..end]
 }
 
-// What a line means. No verb takes more than one word.
+// A verb and what follows it. No verb takes more than one word.
+fn with_verb(verb: Verb, text: &[u8]) -> Line
+    ensures { λ r. ⌜ r ≡ verbLine verb (now (text .entry)) ⌝ }
+{
+    let more = trim(after_first(text));
+    if more.len() != 0 {
+        return Line::Misused(verb);
+    }
+    order(verb, first_word(text))
+}
+
+// What a line means.
 pub fn meaning(line: &[u8]) -> Line
     ensures { λ r. ⌜ r ≡ lineOf (now (line .entry)) ⌝ }
 {
@@ -118,12 +130,10 @@ pub fn meaning(line: &[u8]) -> Line
     if name.len() == 0 {
         return Line::Blank;
     }
-    let Named::This(verb) = verb(spell(name)) else {
-        return Line::Unknown;
-    };
-    let more = trim(after_first(follows));
-    if more.len() != 0 {
-        return Line::Misused(verb);
+    let named = verb(spell(name));
+    match named {
+        Named::This(verb) => with_verb(verb, follows),
+        Named::AtBay(hand) => at_bay(hand, follows),
+        Named::Nothing => Line::Unknown,
     }
-    order(verb, first_word(follows))
 }

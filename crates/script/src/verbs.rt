@@ -1,6 +1,7 @@
 // The verbs by their names.
 ghost use mathlib.Core.Path.{_≡_};
 ghost use Rattle.script.specs.Verbs.{verbOf};
+use crate::Hand;
 use crate::Named;
 use crate::Verb;
 
@@ -35,9 +36,29 @@ const REGS: u64 = 0x73_67_65_72;
 
 const HELP: u64 = 0x70_6C_65_68;
 
+const INSERT: u64 = 0x74_72_65_73_6E_69;
+
+const REMOVE: u64 = 0x65_76_6F_6D_65_72;
+
+const PRESS: u64 = 0x73_73_65_72_70;
+
+const RELEASE: u64 = 0x65_73_61_65_6C_65_72;
+
+const SECURE: u64 = 0x65_72_75_63_65_73;
+
+const UNSECURE: u64 = 0x65_72_75_63_65_73_6E_75;
+
 pub(crate) const ACK: u64 = 0x6B_63_61;
 
 pub(crate) const NACK: u64 = 0x6B_63_61_6E;
+
+pub(crate) const BAY_0: u64 = 0x30;
+
+pub(crate) const BAY_1: u64 = 0x31;
+
+pub(crate) const OF_1394: u64 = 0x34_39_33_31;
+
+pub(crate) const USB: u64 = 0x62_73_75;
 
 pub(crate) fn verb(name: u64) -> Named
     ensures { λ r. ⌜ r ≡ verbOf name ⌝ }
@@ -58,6 +79,12 @@ pub(crate) fn verb(name: u64) -> Named
         OUT => Named::This(Verb::Out),
         REGS => Named::This(Verb::Regs),
         HELP => Named::This(Verb::Help),
+        INSERT => Named::AtBay(Hand::Insert),
+        REMOVE => Named::AtBay(Hand::Remove),
+        PRESS => Named::AtBay(Hand::Press),
+        RELEASE => Named::AtBay(Hand::Release),
+        SECURE => Named::AtBay(Hand::Secure),
+        UNSECURE => Named::AtBay(Hand::Unsecure),
         _ => Named::Nothing,
     }
 }

@@ -1,1 +1,5 @@
 pub mod Line
+pub mod Text
+pub mod Pieces
+pub mod Reads
+pub mod Example

@@ -1,8 +1,8 @@
 //! Lists of event words as a dock may meet them, and as it never should.
 
 use crate::random::Random;
-use model::words::{byte, pins, reset, take, START, STOP, TICK, TIMEOUT};
 use model::MOST_WORDS;
+use paper::words::{byte, pins, reset, take, START, STOP, TICK, TIMEOUT};
 
 /// Every address that means something, and neighbours that do not.
 pub const ADDRESSES: [u8; 18] =

@@ -1,20 +1,23 @@
-//! Holds the proved library against the model: the same words to both, every answer compared.
+//! Holds the proved library, and the C controller of the benchmark, against the model: the same words to all, every
+//! answer compared.
 //!
 //!     diff [WORDS [SEED]]
 //!
 //! WORDS is how many words of generated lists are replayed at least (3,000,000 if not given), SEED where the
-//! generator begins. Before them come all packs and unpacks, every word as a list of its own, the paper's bench
-//! examples, and the lists at the limit of a batch.
+//! generator begins. Before them come the paper's examples, each asked of all three and held against the paper's
+//! numbers, all packs and unpacks, every word as a list of its own, and the lists at the limit of a batch.
 
 mod compare;
 mod lists;
 mod random;
 mod shrink;
+mod sides;
 
 use compare::{Mismatch, Question, Room};
-use model::paper::{examples, Example, Expected};
 use model::{Controller, Refusal, MOST_WORDS};
 use random::Random;
+use sides::{LIBRARY, MODEL, PLAIN};
+use std::fmt;
 use std::process::ExitCode;
 
 const WORDS: usize = 3_000_000;
@@ -31,12 +34,24 @@ const SHOWN_WORDS: usize = 400;
 
 #[derive(Default)]
 struct Counts {
+    examples: usize,
     lists: usize,
     words: usize,
     readings: usize,
     outputs: usize,
     packs: usize,
     unpacks: usize,
+}
+
+impl fmt::Display for Counts {
+    fn fmt(&self, f: &mut fmt::Formatter) -> fmt::Result {
+        write!(f, "{} examples, {} lists, {} words, ", self.examples, self.lists, self.words)?;
+        write!(
+            f,
+            "{} readings, {} outputs, {} packs, {} unpacks",
+            self.readings, self.outputs, self.packs, self.unpacks
+        )
+    }
 }
 
 /// A mismatch that ends the run, told in full.
@@ -54,11 +69,23 @@ impl Run {
     }
 
     fn everything(&mut self, words: usize) -> Result<(), Failure> {
+        self.paper_examples()?;
         self.all_packs()?;
         self.all_single_words()?;
-        self.paper_examples()?;
         self.limits()?;
         self.generated(words)
+    }
+
+    /// Against the paper's own numbers, and then every answer against the model's.
+    fn paper_examples(&mut self) -> Result<(), Failure> {
+        for example in paper::examples() {
+            self.counts.examples += 1;
+            for side in [LIBRARY, MODEL, PLAIN] {
+                example.holds(&side).map_err(|told| Failure(format!("mismatch: the paper's example {}", told)))?;
+            }
+            self.list(&example.words)?;
+        }
+        Ok(())
     }
 
     fn all_packs(&mut self) -> Result<(), Failure> {
@@ -82,17 +109,6 @@ impl Run {
         for word in 0..=u16::MAX {
             self.replay(&[word], Room::Exact)?;
             self.replay(&[0xC0BF, word], Room::Exact)?;
-        }
-        Ok(())
-    }
-
-    /// Against the paper's own numbers, not the model's.
-    fn paper_examples(&mut self) -> Result<(), Failure> {
-        for example in examples() {
-            self.list(&example.words)?;
-            for expected in &example.expected {
-                example_holds(&example, expected)?;
-            }
         }
         Ok(())
     }
@@ -207,42 +223,25 @@ fn tell(question: Question, words: &[u16], mismatch: &Mismatch) -> String {
         None => "the bytes past the last record".to_string(),
     });
     format!(
-        "  list of {} words: {}{}\n  asked: {:?}\n  at: {}\n  library: {}\n  model:   {}\n",
+        "  list of {} words: {}{}\n  asked: {:?}\n  at: {}\n{}",
         words.len(),
         shown.join(" "),
         more,
         question,
         position,
-        mismatch.library,
-        mismatch.model
+        both(mismatch)
     )
+}
+
+fn both(mismatch: &Mismatch) -> String {
+    format!("  {}: {}\n  model: {}\n", mismatch.side, mismatch.answer, mismatch.model)
 }
 
 fn call_agrees(mismatch: Option<Mismatch>, asked: impl Fn() -> String) -> Result<(), Failure> {
     match mismatch {
         None => Ok(()),
-        Some(m) => Err(Failure(format!("mismatch: {}\n  library: {}\n  model:   {}\n", asked(), m.library, m.model))),
+        Some(mismatch) => Err(Failure(format!("mismatch: {}\n{}", asked(), both(&mismatch)))),
     }
-}
-
-fn example_holds(example: &Example, expected: &Expected) -> Result<(), Failure> {
-    let words = &example.words;
-    let (library, paper) = match *expected {
-        Expected::Reads(address, value) => (dock::reading(words, address).raw(), u32::from(value)),
-        Expected::LockPin(high) => (dock::outputs(words).raw() >> 7 & 1, u32::from(high)),
-        Expected::LastRecord(record) => {
-            let records = dock::records(words).unwrap_or_default();
-            let last = records.last().map_or(0, |record| u32::from_be_bytes(record.bytes()));
-            (last, u32::from_be_bytes(record))
-        }
-    };
-    if library == paper {
-        return Ok(());
-    }
-    Err(Failure(format!(
-        "mismatch: the paper's example {}\n  library: {:08X}h\n  paper:   {:08X}h\n",
-        example.name, library, paper
-    )))
 }
 
 fn number<T: std::str::FromStr>(argument: Option<String>, default: T) -> Result<T, String> {
@@ -276,10 +275,6 @@ fn main() -> ExitCode {
         print!("{}", told);
         return ExitCode::FAILURE;
     }
-    let counts = run.counts;
-    println!(
-        "seed {}: {} lists, {} words, {} readings, {} outputs, {} packs, {} unpacks compared: 0 mismatches",
-        seed, counts.lists, counts.words, counts.readings, counts.outputs, counts.packs, counts.unpacks
-    );
+    println!("seed {}: {} compared: 0 mismatches", seed, run.counts);
     ExitCode::SUCCESS
 }

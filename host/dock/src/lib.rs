@@ -1,8 +1,9 @@
 //! Safe calls into the proved controller of the two-bay dock.
 //!
 //! The library keeps nothing between calls: each replay begins with a fresh controller and takes the whole history
-//! as event words, at most [`MOST_WORDS`] of them. Every call accepts every input of its types. What it cannot do it
-//! refuses with a number, and then writes nothing.
+//! as event words, at most [`MOST_WORDS`] of them. Any words, any number and slices of any length are taken: a call
+//! returns, and what it cannot do it refuses with a number and writes nothing. What the C interface asks of a caller
+//! beyond that (pointers that are not null, good for their length, and do not overlap) is true of every slice.
 //!
 //! ```no_run
 //! use dock::{Event, Register};

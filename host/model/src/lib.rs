@@ -4,12 +4,12 @@
 //! disagree, one of them has misread the paper, and the differential test beside this crate says on which words.
 //!
 //! ```
-//! use model::{words, Controller};
+//! use model::Controller;
 //!
 //! let mut dock = Controller::new();
 //! dock.step(0xC0BF); // RESET with a USB device in bay 0
-//! for word in words::write(0x90, 0x14, 0x04) {
-//!     dock.step(word);
+//! for word in [0x0000, 0x4090, 0x4014, 0x4004, 0x2000] {
+//!     dock.step(word); // a whole write: START, address, register, data, STOP
 //! }
 //! assert_eq!(dock.reading(0x10), 0x15); // Inserted, status changed, USB present
 //! ```
@@ -20,8 +20,7 @@ mod bay;
 mod bus;
 mod controller;
 mod event;
-pub mod paper;
-pub mod words;
+pub mod numbers;
 
 pub use answer::{Answer, Refusal, Reply, RECORD_BYTES};
 pub use batch::{replay, replayed, MOST_WORDS};

@@ -18,7 +18,11 @@ returns-3 c = rw (← c .before .before .before .before .meaning .ensures, c .be
 
 returns-4 : tie.Need-returns-4
 unfolding heeded
-returns-4 c = rw (← c .before .before .before .before .meaning .ensures, c .before .before .order .given .1) (c .obey .ensures)
+returns-4 c = rw (← c .before .before .before .before .meaning .ensures, c .before .before .hand .given .1)
+
+returns-5 : tie.Need-returns-5
+unfolding heeded
+returns-5 c = rw (← c .before .before .before .before .meaning .ensures, c .before .before .order .given .1, c .obey .ensures)
 
 pub heed-spec : {M : Type 1} → statement M
 heed-spec =
@@ -32,7 +36,10 @@ heed-spec =
     (λ c κs. search needs)
     (λ c. search needs)
     (λ c κs. search needs)
+    (λ c. search needs)
+    (λ c κs. search needs)
     returns
     returns-2
     returns-3
-    returns-4)
+    returns-4
+    returns-5)

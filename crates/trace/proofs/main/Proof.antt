@@ -4,10 +4,10 @@ use Rattle.trace.proofs.main.Statement.{statement}
 use Rattle.trace.proofs.main.Tie as tie
 
 abbrev Inv-loop : tie.InvT-loop
-Inv-loop state₀ pieces₀ state pieces = Unit {0}
+Inv-loop piece₀ pieces₀ piece pieces = Unit {0}
 
 abbrev μ-loop : tie.MeasureT-loop
-μ-loop state₀ pieces₀ state pieces = pieces
+μ-loop piece₀ pieces₀ piece pieces = pieces
 
 pub main-spec : {M : Type 1} → statement M
 main-spec =
@@ -15,12 +15,10 @@ main-spec =
     (tie.spec
     Inv-loop
     μ-loop
-    (λ c. search needs)
-    (λ c κs. search needs)
     (λ c κs. search needs)
     (λ c. search needs)
-    (λ c κs. search needs)
     (λ c. search needs)
+    (λ c κs. search needs)
     (λ c. search needs)
     (λ c. search needs)
     (λ c. search needs)

@@ -1,11 +1,11 @@
 -- `bench::orders::write` meets its contract: five events, one after the other. Assumes nothing.
-use Rattle.dock.specs.Run.{after}
 use borrow.Author.Needs.{needs}
+use Rattle.bench.specs.Orders.{afterWords}
 use Rattle.bench.proofs.orders.write.Statement.{statement}
 use Rattle.bench.proofs.orders.write.Tie as tie
 
 returns : tie.Need-returns
-unfolding after
+unfolding afterWords
 returns c = rw (c .before .sent5 .ensures, c .before .before .sent4 .ensures, c .before .before .before .sent3 .ensures, c .before .before .before .before .sent2 .ensures, c .before .before .before .before .before .sent .ensures)
 
 pub write-spec : {M : Type 1} → statement M

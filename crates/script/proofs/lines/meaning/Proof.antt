@@ -1,5 +1,5 @@
--- `script::lines::meaning` meets its contract: the words are the definition's, and each way out is one of its cases. Assumes
--- nothing.
+-- `script::lines::meaning` meets its contract: the words are the definition's, and each arm is given what the name stands for.
+-- Assumes nothing.
 use borrow.Author.Needs.{needs}
 use borrow.Author.Tests.{eq-eqb, ne-eqb}
 use Rattle.script.specs.Lines.{textLine, lineOf}
@@ -14,6 +14,34 @@ returns-2 : tie.Need-returns-2
 unfolding textLine lineOf
 returns-2 c =
     rw (
+      ← c .before .before .before .before .before .before .before .before .before .before-comment .ensures,
+      ← c .before .before .before .before .before .before .before .before .first-word .ensures,
+      ne-eqb _ _ (c .before .before .before .before .before .before .if1 .left),
+      ← c .before .before .before .before .before .spell .ensures,
+      ← c .before .before .before .before .verb .ensures,
+      c .before .before .named .given .1,
+      ← c .before .before .before .before .before .before .before .after-first .ensures,
+    )
+    (c .with-verb .ensures)
+
+returns-3 : tie.Need-returns-3
+unfolding textLine lineOf
+returns-3 c =
+    rw (
+      ← c .before .before .before .before .before .before .before .before .before .before-comment .ensures,
+      ← c .before .before .before .before .before .before .before .before .first-word .ensures,
+      ne-eqb _ _ (c .before .before .before .before .before .before .if1 .left),
+      ← c .before .before .before .before .before .spell .ensures,
+      ← c .before .before .before .before .verb .ensures,
+      c .before .before .named2 .given .1,
+      ← c .before .before .before .before .before .before .before .after-first .ensures,
+    )
+    (c .at-bay .ensures)
+
+returns-4 : tie.Need-returns-4
+unfolding textLine lineOf
+returns-4 c =
+    rw (
       ← c .before .before .before .before .before .before .before .before-comment .ensures,
       ← c .before .before .before .before .before .before .first-word .ensures,
       ne-eqb _ _ (c .before .before .before .before .if1 .left),
@@ -21,40 +49,6 @@ returns-2 c =
       ← c .before .before .verb .ensures,
       c .enum-told .given .1,
     )
-
-returns-3 : tie.Need-returns-3
-unfolding textLine lineOf
-returns-3 c =
-    rw (
-      ← c .before .before .before .before .before .before .before .before .before .before .before .before-comment .ensures,
-      ← c .before .before .before .before .before .before .before .before .before .before .first-word .ensures,
-      ne-eqb _ _ (c .before .before .before .before .before .before .before .before .if1 .left),
-      ← c .before .before .before .before .before .before .before .spell .ensures,
-      ← c .before .before .before .before .before .before .verb .ensures,
-      c .before .before .before .before .verb2 .given .1,
-      ← c .before .before .before .before .before .before .before .before .before .after-first .ensures,
-      ← c .before .before .after-first2 .ensures,
-      ← c .before .trim .ensures,
-      ne-eqb _ _ (c .if2 .taken),
-    )
-
-returns-4 : tie.Need-returns-4
-unfolding textLine lineOf
-returns-4 c =
-    rw (
-      ← c .before .before .before .before .before .before .before .before .before .before .before .before .before .before-comment .ensures,
-      ← c .before .before .before .before .before .before .before .before .before .before .before .before .first-word .ensures,
-      ne-eqb _ _ (c .before .before .before .before .before .before .before .before .before .before .if1 .left),
-      ← c .before .before .before .before .before .before .before .before .before .spell .ensures,
-      ← c .before .before .before .before .before .before .before .before .verb .ensures,
-      c .before .before .before .before .before .before .verb2 .given .1,
-      ← c .before .before .before .before .before .before .before .before .before .before .before .after-first .ensures,
-      ← c .before .before .before .before .after-first2 .ensures,
-      ← c .before .before .before .trim .ensures,
-      eq-eqb _ _ (c .before .before .if2 .left),
-      ← c .before .first-word2 .ensures,
-    )
-    (c .order .ensures)
 
 pub meaning-spec : {M : Type 1} → statement M
 meaning-spec =
@@ -67,11 +61,10 @@ meaning-spec =
     (λ c κs. search needs)
     (λ c κs. search needs)
     (λ c. search needs)
+    (λ c κs. search needs)
+    (λ c. search needs)
+    (λ c κs. search needs)
     (λ c. search needs)
     returns-2
-    (λ c κs. search needs)
-    (λ c κs. search needs)
     returns-3
-    (λ c κs. search needs)
-    (λ c κs. search needs)
     returns-4)

@@ -1,0 +1,86 @@
+-- A bay moves exactly as the two tables say. The state after a TICK or a write is a choice by tests, so that each entry is a
+-- tautology over these tests, at each state from and to and at each request. Assumes nothing.
+use Prim.Native.Nat.{ℕ, _/_, _%_, _<_}
+use native.Mathlib.Omega.{arith}
+use mathlib.Core.Path.{_≡_, refl, sym, _∙_}
+use mathlib.Core.Logic.{_↔_}
+use mathlib.Core.Bool.{Bool, true, not, cond, _&&_, _||_, Bool·beq}
+use lib.Dec.{eqb, ltb, leb}
+use borrow.Author.Tests.{eqb-true, eq-eqb}
+use Rattle.bits.specs.Bits.{bit}
+use Rattle.bay.specs.Record.{NREMREQ, acceptedLevel, present}
+use Rattle.bay.specs.Moves.{inUse, stateAfter, movedBay, tickedBay}
+use Rattle.bay.specs.Registers.{controlOf, asks, stateWritten, controlledBay}
+use Rattle.bay.specs.Table.{Table, entry, tickRows, tickTable, writeRows, writeTable}
+use Rattle.bay.specs.declared.Bay.{Bay}
+use Rattle.bay.proofs.Taut.{All, Below, Fun, below, taut, same}
+use Rattle.bay.proofs.Ticks.{present-after, press-after}
+
+-- An entry that is the test for a state says exactly when that is the state.
+exactly : (state to : ℕ) (test : Bool) → eqb state to ≡ test → (state ≡ to) ↔ (test ≡ true)
+exactly state to test e = (λ h. sym e ∙ eq-eqb state to h, λ t. eqb-true state to (e ∙ t))
+
+-- ---- a TICK
+
+-- The state after it, by the state before and seven tests: a device before and after, DEVSTSCHG_EN, nREMREQ as accepted before and
+-- after, REMREQ_EN and REMREQ_STS. And the table by the same tests.
+abbrev stateBy : ℕ → Bool → Bool → Bool → Bool → Bool → Bool → Bool → ℕ
+stateBy s p q en l m req sts = cond (p && not q) 0 (cond (not p && q && en) 1 (cond (l && not m && req && not sts && (eqb s 1 || eqb s 2)) 3 s))
+
+abbrev tableBy : Bool → Bool → Bool → Bool → Bool → Bool → Bool → Table
+tableBy p q en l m req sts =
+    let gone = p && not q in
+    let come = not p && q && en in
+    let press = not gone && not come && l && not m && req && not sts in
+    tickRows gone come press (not gone && not come && not press)
+
+-- The entry is the test for that state.
+abbrev tickEntry : ℕ → ℕ → Fun 7
+tickEntry from to p q en l m req sts = Bool·beq (eqb (stateBy from p q en l m req sts) to) (entry (tableBy p q en l m req sts) from to)
+
+-- For every bay state from and to: a TICK brings a bay from the one to the other exactly when the table says.
+pub tick-table : (b : Bay) → b .state < 5 → (to : ℕ) → to < 5 → (tickedBay b .state ≡ to) ↔ (entry (tickTable b) (b .state) to ≡ true)
+unfolding tickTable tickedBay movedBay stateAfter inUse
+tick-table b h to k =
+    exactly _ to _
+    (rw moved
+    (same _ _
+    (taut 7 (tickEntry (b .state) to)
+    (below 5 (λ to. All 7 (tickEntry (b .state) to)) (below 5 (λ from. Below 5 (λ to. All 7 (tickEntry from to))) refl (b .state) h) to k)
+    (present b) (present (tickedBay b)) (b .control .«devstschg_en») (acceptedLevel b NREMREQ) (acceptedLevel (tickedBay b) NREMREQ)
+    (b .control .«remreq_en») (b .«remreq_sts»))))
+  where
+    moved :
+        tickedBay b .state
+        ≡ stateBy (b .state) (present b) (present (tickedBay b)) (b .control .«devstschg_en») (acceptedLevel b NREMREQ) (acceptedLevel (tickedBay b) NREMREQ) (b .control .«remreq_en») (b .«remreq_sts»)
+    moved = rw (present-after b, ← (press-after b))
+
+-- ---- a write of BCER
+
+-- The state after it, by the request, the state before and six tests: a device, DEVSTSCHG_EN as written and before, REMREQ_EN as
+-- written and before, and REMREQ_STS. And the table by the same tests.
+abbrev writtenBy : ℕ → ℕ → Bool → Bool → Bool → Bool → Bool → Bool → ℕ
+writtenBy r s p en en₀ req req₀ sts =
+    cond (ltb 0 r && leb r 4 && p) r (cond (en && not en₀ && eqb s 0 && p) 1 (cond (req && not req₀ && sts && (eqb s 1 || eqb s 2)) 3 s))
+
+abbrev rowsBy : ℕ → Bool → Bool → Bool → Bool → Bool → Bool → Table
+rowsBy r p en en₀ req req₀ sts =
+    let nothing = not (p && eqb r 1) && not (p && eqb r 2) && not (p && eqb r 3) && not (p && eqb r 4) in
+    writeRows (λ k. p && eqb r k) nothing (nothing && en && not en₀ && p) (nothing && req && not req₀ && sts)
+
+abbrev writeEntry : ℕ → ℕ → ℕ → Fun 6
+writeEntry r from to p en en₀ req req₀ sts = Bool·beq (eqb (writtenBy r from p en en₀ req req₀ sts) to) (entry (rowsBy r p en en₀ req req₀ sts) from to)
+
+-- For every bay state from and to: a write of v brings a bay from the one to the other exactly when the table says.
+pub write-table :
+    (v : ℕ) (mode : Bool) (ticks : ℕ) (b : Bay) → b .state < 5 → (to : ℕ) → to < 5
+    → (controlledBay (controlOf v) mode ticks b .state ≡ to) ↔ (entry (writeTable v b) (b .state) to ≡ true)
+unfolding writeTable controlledBay controlOf stateWritten asks inUse
+write-table v mode ticks b h to k =
+    exactly _ to _
+    (same _ _
+    (taut 6 (writeEntry (v / 16 % 8) (b .state) to)
+    (below 5 (λ to. All 6 (writeEntry (v / 16 % 8) (b .state) to))
+    (below 5 (λ from. Below 5 (λ to. All 6 (writeEntry (v / 16 % 8) from to)))
+    (below 8 (λ r. Below 5 (λ from. Below 5 (λ to. All 6 (writeEntry r from to)))) refl (v / 16 % 8) (omega arith)) (b .state) h) to k)
+    (present b) (bit 2 v) (b .control .«devstschg_en») (bit 3 v) (b .control .«remreq_en») (b .«remreq_sts»)))

@@ -1,0 +1,88 @@
+-- Lines as a person types them, at address 90h and over levels as they are, and the event words that they send.
+use Prim.Native.Nat.{ℕ}
+use Prim.Native.String.{String}
+use mathlib.Core.List.{List, [], _∷_, _++_}
+use Rattle.script.specs.Text.{characters}
+use Rattle.script.specs.Lines.{lineOf}
+use Rattle.script.specs.declared.Line.{Line}
+use Rattle.script.specs.declared.Line.the-variants.{Blank, Unknown, Misused, Mishandled, Does}
+use Rattle.bench.specs.Orders.{wordsOf}
+
+pub record Example : Type 0 where
+  pub levels : ℕ
+  pub typed : String
+  pub words : List ℕ
+
+abbrev from : ℕ → String → List ℕ → Example
+from l t ws = record { levels = l; typed = t; words = ws }
+
+abbrev lineWords : ℕ → Line → List ℕ
+lineWords l Blank = []
+lineWords l Unknown = []
+lineWords l (Misused v) = []
+lineWords l (Mishandled h) = []
+lineWords l (Does o) = wordsOf 0x90 l o
+
+abbrev pub typedWords : Example → List ℕ
+typedWords e = lineWords (e .levels) (lineOf (characters (e .typed)))
+
+-- What a person does at a bay sends one PINS, kind 4, with the levels.
+abbrev hand : ℕ → String → ℕ → Example
+hand l t w = from l t (w ∷ [])
+
+-- Each input of each bay falls alone ..
+abbrev falling : List Example
+falling =
+    hand 0xFF "insert 0 1394" 0x807F
+    ∷ hand 0xFF "insert 0 usb" 0x80BF
+    ∷ hand 0xFF "press 0" 0x80DF
+    ∷ hand 0xFF "secure 0" 0x80EF
+    ∷ hand 0xFF "insert 1 1394" 0x80F7
+    ∷ hand 0xFF "insert 1 usb" 0x80FB
+    ∷ hand 0xFF "press 1" 0x80FD
+    ∷ hand 0xFF "secure 1" 0x80FE
+    ∷ []
+
+-- .. and rises alone, but for the two contacts of a cartridge.
+abbrev rising : List Example
+rising =
+    hand 0x00 "remove 0" 0x80C0
+    ∷ hand 0x00 "release 0" 0x8020
+    ∷ hand 0x00 "unsecure 0" 0x8010
+    ∷ hand 0x00 "remove 1" 0x800C
+    ∷ hand 0x00 "release 1" 0x8002
+    ∷ hand 0x00 "unsecure 1" 0x8001
+    ∷ []
+
+-- A USB cartridge is in bay 0: its button, another cartridge for bay 1, and its leave; then what changes no level.
+abbrev stay : List Example
+stay =
+    hand 0xBF "press 0" 0x809F
+    ∷ hand 0x9F "insert 1 1394" 0x8097
+    ∷ hand 0x97 "release 0" 0x80B7
+    ∷ hand 0xB7 "remove 0" 0x80F7
+    ∷ hand 0x00 "press 0" 0x8000
+    ∷ hand 0xFF "remove 1" 0x80FF
+    ∷ []
+
+-- The other verbs send what they say, whatever the levels are.
+abbrev plain : List Example
+plain =
+    from 0xFF "reset C0BF" (0xC0BF ∷ [])
+    ∷ from 0xFF "pins 9F" (0x809F ∷ [])
+    ∷ from 0xFF "tick 3" (0xA000 ∷ 0xA000 ∷ 0xA000 ∷ [])
+    ∷ from 0xFF "w 14=04" (0x0000 ∷ 0x4090 ∷ 0x4014 ∷ 0x4004 ∷ 0x2000 ∷ [])
+    ∷ from 0xFF "r 10" (0x0000 ∷ 0x4090 ∷ 0x4010 ∷ 0x0000 ∷ 0x4091 ∷ 0x6000 ∷ [])
+    ∷ from 0xFF "start" (0x0000 ∷ [])
+    ∷ from 0xFF "stop" (0x2000 ∷ [])
+    ∷ from 0xFF "byte 90" (0x4090 ∷ [])
+    ∷ from 0xFF "take ack" (0x6001 ∷ [])
+    ∷ from 0xFF "take nack" (0x6000 ∷ [])
+    ∷ from 0xFF "timeout" (0xE000 ∷ [])
+    ∷ from 0xFF "word D0FF" (0xD0FF ∷ [])
+    ∷ from 0xFF "at 96" []
+    ∷ from 0xFF "out" []
+    ∷ []
+
+unfoldable pub examples : List Example
+examples = falling ++ rising ++ stay ++ plain

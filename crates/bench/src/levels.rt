@@ -1,0 +1,56 @@
+// The levels at the dock's inputs, as they were last given to it.
+ghost use mathlib.Core.Path.{_≡_};
+ghost use Rattle.event.specs.Words.{unpacked};
+ghost use Rattle.bench.specs.Levels.{pulled, raised, givenBy, levelsAfter};
+use dock::Answer;
+use event::Event;
+use event::Unpacked;
+
+// Before any are given, no input is asserted.
+pub(crate) const AT_REST: u8 = 0xFF;
+
+// Inputs, each by its weight, go to 0; the others stay.
+pub(crate) fn pulled(levels: u8, inputs: u8) -> u8
+    ensures { λ r. ⌜ r ≡ pulled levels inputs ⌝ }
+{
+    levels & (0xFF - inputs)
+}
+
+// They go to 1.
+pub(crate) fn raised(levels: u8, inputs: u8) -> u8
+    ensures { λ r. ⌜ r ≡ raised levels inputs ⌝ }
+{
+    levels | inputs
+}
+
+// A PINS and a RESET give levels.
+fn given_by(event: Event, levels: u8) -> u8
+    ensures { λ r. ⌜ r ≡ givenBy event levels ⌝ }
+{
+    match event {
+        Event::Start => levels,
+        Event::Stop => levels,
+        Event::Byte(_) => levels,
+        Event::Take(_) => levels,
+        Event::Pins(given) => given,
+        Event::Tick => levels,
+        Event::Reset {
+            straps: _,
+            levels: given,
+        } => given,
+        Event::Timeout => levels,
+    }
+}
+
+// The levels after a word, by the answer to it: a word that is refused gives none.
+pub(crate) fn levels_after(answer: Answer, word: u16, levels: u8) -> u8
+    ensures { λ r. ⌜ r ≡ levelsAfter answer (unpacked word) levels ⌝ }
+{
+    if answer.refusal() != 0 {
+        return levels;
+    }
+    let Unpacked::Accepted(event) = event::unpack(word) else {
+        return levels;
+    };
+    given_by(event, levels)
+}

@@ -1,0 +1,186 @@
+-- Examples of our own, beside P1 to P12 and in the same notation: what "Registers", "Outputs" and the table of refusals of document 01
+-- come to, word by word from a fresh controller. Each line would read differently if its rule were another.
+use Prim.Native.Nat.{ℕ, _+_}
+use mathlib.Core.Bool.{true, false}
+use mathlib.Core.List.{List, [], _∷_, _++_}
+use Rattle.dock.specs.Examples.{Example, reads, lock-pin-0, drives, answers, gives, R, N, w, pins, ticks}
+
+-- A RESET with these straps and levels.
+abbrev RESET : ℕ → List ℕ
+RESET given = (0xC000 + given) ∷ []
+
+-- ---- before the first RESET
+
+abbrev unstarted : List Example
+unstarted =
+    gives [] (reads 0x00 0x00)
+    ∷ gives [] (reads 0x10 0x00)
+    ∷ gives [] (drives 0x000)
+    ∷ gives [] (answers 0xA000 3 0 0x00 0x000)
+    ∷ gives [] (answers 0xA001 2 0 0x00 0x000)
+    ∷ []
+
+-- ---- registers
+
+-- The identity registers read the same whatever is written there, and an address that has no register reads 0.
+abbrev identity : List Example
+identity =
+    gives (N ++ w 0x00 0xFF) (reads 0x00 0x55)
+    ∷ gives (N ++ w 0x01 0xFF) (reads 0x01 0x10)
+    ∷ gives (N ++ w 0x04 0xFF) (reads 0x04 0x01)
+    ∷ gives (N ++ w 0x41 0xFF) (reads 0x41 0x00)
+    ∷ gives (N ++ w 0x41 0xFF) (reads 0x40 0x00)
+    ∷ []
+
+-- BSTR: nSL shows at once, and each bay has its own. Written, only bits 3 and 2 count, and only a 1.
+abbrev bstr : List Example
+bstr =
+    gives (N ++ pins 0xEF) (reads 0x10 0x80)
+    ∷ gives (N ++ pins 0xFE) (reads 0x18 0x80)
+    ∷ gives (RESET 0x07F) (reads 0x10 0x06)
+    ∷ gives (RESET 0x0FB) (reads 0x18 0x05)
+    ∷ gives (R ++ pins 0x9F ++ ticks 10) (reads 0x10 0x0D)
+    ∷ gives (R ++ pins 0x9F ++ ticks 10 ++ w 0x10 0xF3) (reads 0x10 0x0D)
+    ∷ gives (R ++ pins 0x9F ++ ticks 10 ++ w 0x10 0x08) (reads 0x10 0x05)
+    ∷ gives (R ++ pins 0x9F ++ ticks 10 ++ w 0x10 0x04) (reads 0x10 0x09)
+    ∷ []
+
+-- BCER: all of it reads back over a locked device; a request of 0 or 5-7 keeps the old one, in the register and of the bay.
+abbrev bcer : List Example
+bcer =
+    gives (R ++ w 0x14 0xAF) (reads 0x14 0xAF)
+    ∷ gives (R ++ w 0x14 0xAF ++ w 0x14 0x80) (reads 0x14 0xA0)
+    ∷ gives (R ++ w 0x14 0xAF ++ w 0x14 0xD0) (reads 0x14 0xA0)
+    ∷ gives (R ++ w 0x14 0xAF ++ w 0x14 0xF0) (reads 0x10 0x25)
+    ∷ gives (RESET 0x0FB ++ w 0x1C 0xC3) (reads 0x1C 0xC3)
+    ∷ gives (RESET 0x0FB ++ w 0x1C 0xC3) (reads 0x14 0x00)
+    ∷ []
+
+-- LETR has two bits.
+abbrev letr : List Example
+letr = gives (N ++ w 0x40 0xFE) (reads 0x40 0x02) ∷ gives (N ++ w 0x40 0x03 ++ N) (reads 0x40 0x00) ∷ []
+
+-- DBCCR: count 1 closes bay 1 until RESET, the others close nothing. In a closed bay nothing reads, nothing is written, sampled or
+-- counted, and nothing is driven; what was in it is gone.
+abbrev two : List ℕ
+two = RESET 0x0FB ++ w 0x1C 0x85
+
+abbrev dbccr : List Example
+dbccr =
+    gives two (drives 0x01D)
+    ∷ gives (two ++ w 0x0C 0x02) (drives 0x01D)
+    ∷ gives (two ++ w 0x0C 0x03) (drives 0x01D)
+    ∷ gives (two ++ w 0x0C 0x10) (reads 0x0C 0x10)
+    ∷ gives (two ++ w 0x0C 0x01) (drives 0x000)
+    ∷ gives (two ++ w 0x0C 0x01) (reads 0x18 0x00)
+    ∷ gives (two ++ w 0x0C 0x01 ++ w 0x1C 0x85) (reads 0x1C 0x00)
+    ∷ gives (two ++ w 0x0C 0x01 ++ w 0x1C 0x85 ++ pins 0xFA ++ ticks 10) (drives 0x000)
+    ∷ gives (two ++ w 0x0C 0x01 ++ pins 0xFA ++ ticks 10) (reads 0x18 0x00)
+    ∷ gives (two ++ w 0x0C 0x01 ++ RESET 0x0FB) (reads 0x18 0x05)
+    ∷ []
+
+-- ---- moves by a write
+
+-- A request is the state over a device. DEVSTSCHG_EN finds a device that waits in Empty. REMREQ_EN recalls a press once, when it
+-- rises: with the enable already 1 a write keeps the state.
+abbrev requested : List ℕ
+requested = R ++ w 0x14 0x0C ++ pins 0x9F ++ ticks 10
+
+abbrev moves : List Example
+moves =
+    gives (R ++ w 0x14 0x40) (reads 0x10 0x45)
+    ∷ gives (N ++ w 0x14 0x20) (reads 0x10 0x00)
+    ∷ gives requested (reads 0x10 0x3D)
+    ∷ gives (requested ++ w 0x14 0x2C) (reads 0x10 0x2D)
+    ∷ gives (requested ++ w 0x14 0x2C ++ w 0x14 0x0C) (reads 0x10 0x2D)
+    ∷ gives (requested ++ w 0x14 0x2C ++ ticks 10) (reads 0x10 0x2D)
+    ∷ gives (R ++ w 0x14 0x04 ++ pins 0x9F ++ ticks 10) (reads 0x10 0x1D)
+    ∷ gives (R ++ w 0x14 0x04 ++ pins 0x9F ++ ticks 10 ++ w 0x14 0x0C) (reads 0x10 0x3D)
+    ∷ []
+
+-- ---- outputs
+
+-- Power, lock pin, green and the interrupt of bay 0; its yellow lamp; the same of bay 1.
+abbrev lamps : List Example
+lamps =
+    gives (R ++ w 0x14 0xA5) (drives 0x1C1)
+    ∷ gives (R ++ w 0x14 0xA5 ++ w 0x10 0x04) (drives 0x1C0)
+    ∷ gives requested (drives 0x021)
+    ∷ gives (requested ++ w 0x10 0x08) (drives 0x021)
+    ∷ gives (requested ++ w 0x10 0x0C) (drives 0x020)
+    ∷ gives (requested ++ w 0x14 0x00) (drives 0x020)
+    ∷ gives (RESET 0x0FB ++ w 0x1C 0xB0) (drives 0x00A)
+    ∷ gives (R ++ w 0x14 0x40) (drives 0x000)
+    ∷ []
+
+-- Inserted flashes: lit through 99 ticks, dark through 199, and lit again. Enabled doesn't.
+abbrev flashing : List Example
+flashing =
+    gives (R ++ w 0x14 0x10 ++ ticks 99) (drives 0x040)
+    ∷ gives (R ++ w 0x14 0x10 ++ ticks 100) (drives 0x000)
+    ∷ gives (R ++ w 0x14 0x10 ++ ticks 199) (drives 0x000)
+    ∷ gives (R ++ w 0x14 0x10 ++ ticks 200) (drives 0x040)
+    ∷ gives (R ++ w 0x14 0x20 ++ ticks 100) (drives 0x040)
+    ∷ gives (R ++ w 0x14 0x30 ++ ticks 100) (drives 0x000)
+    ∷ []
+
+-- In LOCK_MODE 1 the lock pin is low for LETR's ticks after LOCK_CTL goes from 1 to 0, and for as many again after another; LETR written
+-- meanwhile changes nothing. In LOCK_MODE 0 it is LOCK_CTL.
+abbrev unlocked : ℕ → ℕ → List ℕ
+unlocked time n = RESET 0x1FF ++ w 0x40 time ++ w 0x14 0x80 ++ w 0x14 0x00 ++ ticks n
+
+abbrev again : ℕ → List ℕ
+again n = unlocked 0 6 ++ w 0x14 0x80 ++ w 0x14 0x00 ++ ticks n
+
+abbrev locks : List Example
+locks =
+    gives (unlocked 1 49) (lock-pin-0 false)
+    ∷ gives (unlocked 1 50) (lock-pin-0 true)
+    ∷ gives (unlocked 2 99) (lock-pin-0 false)
+    ∷ gives (unlocked 2 100) (lock-pin-0 true)
+    ∷ gives (unlocked 3 199) (lock-pin-0 false)
+    ∷ gives (unlocked 3 200) (lock-pin-0 true)
+    ∷ gives (again 11) (lock-pin-0 false)
+    ∷ gives (again 12) (lock-pin-0 true)
+    ∷ gives (unlocked 0 6 ++ w 0x40 0x03 ++ ticks 6) (lock-pin-0 true)
+    ∷ gives (unlocked 0 6 ++ w 0x14 0x00 ++ ticks 6) (lock-pin-0 true)
+    ∷ gives (RESET 0x0FF ++ w 0x14 0x80) (lock-pin-0 true)
+    ∷ gives (RESET 0x0FF ++ w 0x14 0x80 ++ w 0x14 0x00 ++ ticks 12) (lock-pin-0 false)
+    ∷ []
+
+-- ---- answers
+
+-- Refusal 2 tells the outputs as they are. A BYTE, a TAKE and a tick as they are answered; two data bytes: no ACK and no write; straps
+-- 1100: 96h is ACKed, 90h is not.
+abbrev answered : List Example
+answered =
+    gives (R ++ w 0x14 0x04) (answers 0xA001 2 0 0x00 0x041)
+    ∷ gives (R ++ w 0x14 0x04) (answers 0xA000 0 0 0x00 0x041)
+    ∷ gives (R ++ w 0x14 0x04) (answers 0x6001 0 4 0xFF 0x041)
+    ∷ gives (N ++ 0x0000 ∷ 0x4090 ∷ 0x4014 ∷ 0x4004 ∷ []) (answers 0x4005 0 2 0x00 0x000)
+    ∷ gives (R ++ 0x0000 ∷ 0x4090 ∷ 0x4014 ∷ 0x4004 ∷ 0x4005 ∷ 0x2000 ∷ []) (reads 0x14 0x00)
+    ∷ gives (RESET 0xCFF ++ 0x0000 ∷ []) (answers 0x4096 0 1 0x00 0x000)
+    ∷ gives (RESET 0xCFF ++ 0x0000 ∷ []) (answers 0x4090 0 2 0x00 0x000)
+    ∷ []
+
+-- ---- pins and ticks inside a command
+
+-- A read of BSTR whose device leaves after the own read byte: the TAKE still gives 05, though the register then reads 04.
+abbrev left : List ℕ
+left = R ++ 0x0000 ∷ 0x4090 ∷ 0x4010 ∷ 0x0000 ∷ 0x4091 ∷ (pins 0xFF ++ ticks 10)
+
+-- A write of BCER with the button pressed, and the press accepted, between its data byte and its STOP.
+abbrev pressed : List ℕ
+pressed = R ++ w 0x14 0xAD ++ 0x0000 ∷ 0x4090 ∷ 0x4014 ∷ 0x408D ∷ (pins 0x9F ++ ticks 10 ++ 0x2000 ∷ [])
+
+abbrev inside : List Example
+inside =
+    gives left (answers 0x6000 0 3 0x05 0x000)
+    ∷ gives left (reads 0x10 0x04)
+    ∷ gives pressed (reads 0x10 0x3D)
+    ∷ gives pressed (drives 0x1A1)
+    ∷ []
+
+unfoldable pub ours : List Example
+ours =
+    unstarted ++ identity ++ bstr ++ bcer ++ letr ++ dbccr ++ moves ++ lamps ++ flashing ++ locks ++ answered ++ inside

@@ -1,0 +1,209 @@
+-- The register map, address by address (document 01, "Registers"): what reads where, what takes a write, what reads back, and what
+-- closing bay 1 does. An address that a table doesn't have is found nowhere in it. Assumes nothing.
+use Prim.Native.Nat.{ℕ, zero, suc, _+_, _*_, _/_, _%_, _-_, _<_}
+use native.Mathlib.Omega.{arith}
+use mathlib.Core.Path.{_≡_, refl, sym, ap, subst, _∙_}
+use mathlib.Core.Logic.{_≢_}
+use mathlib.Core.Bool.{Bool, true, false, cond, _||_, true≢false}
+use mathlib.Core.List.{List, [], _∷_, map}
+use lib.Dec.{eqb}
+use borrow.Author.Tests.{eq-eqb, ne-eqb}
+use Rattle.bits.specs.Bits.{bit, put}
+use Rattle.bits.specs.Straps.{lockMode}
+use Rattle.bay.specs.declared.Bay.{Bay}
+use Rattle.bay.specs.Record.{N1394, NUSB, NREMREQ, level, emptyBay}
+use Rattle.bay.proofs.Laws.{Sensed, sampled}
+use Rattle.bay.specs.Registers.{bstrOf, bcerOf}
+use Rattle.bay.proofs.Named.{bcer-pulses, reset-senses}
+use Rattle.machine.specs.Record.{bayAt, bayIn, openBy, isOpen}
+use Rattle.machine.specs.Registers.{Row, find, dbccrOf, bstrAt, bcerAt, registers, register, reading, dbccrStored, dbccrWrite, letrWrite, pulseTicks, bstrWrite, bcerWrite, writes, written}
+use Rattle.machine.specs.Acts.{resetTo, sampledAt, pinsTo}
+use Rattle.machine.specs.declared.Machine.{Machine}
+use Rattle.machine.proofs.Bays.{put-bay}
+use Rattle.machine.proofs.Choice.{chosen, passed}
+use Rattle.machine.proofs.Addresses.{write-steady}
+
+-- ---- an address in a list
+
+abbrev pub among : ℕ → List ℕ → Bool
+among a [] = false
+among a (x ∷ xs) = eqb a x || among a xs
+
+find-none : {A : Type 0} (a : ℕ) (rows : List (Row A)) (other : A) → among a (map (λ r. r .address) rows) ≡ false → find a rows other ≡ other
+find-none a [] other h = refl
+find-none a (r ∷ rows) other h = go (eqb a (r .address)) h (find-none a rows other)
+  where
+    go :
+        (t : Bool) → (t || among a (map (λ r. r .address) rows)) ≡ false
+        → (among a (map (λ r. r .address) rows) ≡ false → find a rows other ≡ other) → cond t (r .holds) (find a rows other) ≡ other
+    go true k rest = absurd (true≢false k)
+    go false k rest = rest k
+
+-- ---- what reads where, once started
+
+pub record Reads (m : Machine) : Type 0 where
+  pub identity : (reading m 0x00 ≡ 0x55) × (reading m 0x01 ≡ 0x10) × (reading m 0x04 ≡ 0x01)
+  pub dbccr : reading m 0x0C ≡ dbccrOf (m .shared)
+  pub bstr-0 : reading m 0x10 ≡ bstrOf (bayAt m 0)
+  pub bcer-0 : reading m 0x14 ≡ bcerOf (bayAt m 0)
+  pub bstr-1 : isOpen m 1 ≡ true → reading m 0x18 ≡ bstrOf (bayAt m 1)
+  pub bcer-1 : isOpen m 1 ≡ true → reading m 0x1C ≡ bcerOf (bayAt m 1)
+  pub letr : m .shared .«lock_time» < 4 → reading m 0x40 ≡ m .shared .«lock_time»
+  pub others : (a : ℕ) → among a (0x00 ∷ 0x01 ∷ 0x04 ∷ 0x0C ∷ 0x10 ∷ 0x14 ∷ 0x18 ∷ 0x1C ∷ 0x40 ∷ []) ≡ false → reading m a ≡ 0
+
+reads-on : (m : Machine) → m .started ≡ true → (a : ℕ) → reading m a ≡ register m a
+unfolding reading
+reads-on m t a = chosen t (register m a) 0
+
+pub reads : (m : Machine) → m .started ≡ true → Reads m
+unfolding register registers bstrAt bcerAt openBy
+reads m t =
+    record {
+      identity = (reads-on m t 0x00, reads-on m t 0x01, reads-on m t 0x04);
+      dbccr = reads-on m t 0x0C;
+      bstr-0 = reads-on m t 0x10;
+      bcer-0 = reads-on m t 0x14;
+      bstr-1 = λ o. reads-on m t 0x18 ∙ chosen o (bstrOf (bayAt m 1)) 0;
+      bcer-1 = λ o. reads-on m t 0x1C ∙ chosen o (bcerOf (bayAt m 1)) 0;
+      letr = λ l. reads-on m t 0x40 ∙ omega (arith, l);
+      others = λ a n. reads-on m t a ∙ find-none a (registers m) 0 n;
+    }
+
+-- ---- what takes a write
+
+pub record Takes (v : ℕ) (m : Machine) : Type 0 where
+  pub dbccr : written 0x0C v m ≡ dbccrWrite v m
+  pub bstr-0 : written 0x10 v m ≡ bstrWrite 0 v m
+  pub bcer-0 : written 0x14 v m ≡ bcerWrite 0 v m
+  pub bstr-1 : written 0x18 v m ≡ bstrWrite 1 v m
+  pub bcer-1 : written 0x1C v m ≡ bcerWrite 1 v m
+  pub letr : written 0x40 v m ≡ letrWrite v m
+  pub others : (a : ℕ) → among a (0x0C ∷ 0x10 ∷ 0x14 ∷ 0x18 ∷ 0x1C ∷ 0x40 ∷ []) ≡ false → written a v m ≡ m
+
+pub takes : (v : ℕ) (m : Machine) → Takes v m
+unfolding written writes
+takes v m =
+    record {
+      dbccr = refl;
+      bstr-0 = refl;
+      bcer-0 = refl;
+      bstr-1 = refl;
+      bcer-1 = refl;
+      letr = refl;
+      others = λ a n. find-none a (writes v m) m n;
+    }
+
+-- ---- DBCCR and LETR as they read back
+
+-- A bit of a number, put back.
+bit-back : (n : ℕ) → n < 2 → put 4 (eqb n 1) ≡ n * 16
+bit-back zero l = refl
+bit-back (suc zero) l = refl
+bit-back (suc (suc n)) l = absurd (omega arith)
+
+-- The first write after a RESET ..
+pub dbccr-first : (v : ℕ) (m : Machine) → m .shared .«dbccr_written» ≡ false → written 0x0C v m ≡ dbccrStored v m
+unfolding dbccrWrite
+dbccr-first v m w = takes v m .dbccr ∙ passed w m (dbccrStored v m)
+
+-- .. stores bits 4 and 1-0; the others read 0.
+pub dbccr-reads-back :
+    (v : ℕ) (m : Machine) → m .started ≡ true → m .shared .«dbccr_written» ≡ false → reading (written 0x0C v m) 0x0C ≡ v % 4 + v / 16 % 2 * 16
+unfolding dbccrOf dbccrStored
+dbccr-reads-back v m t w =
+    reads (written 0x0C v m) (write-steady 0x0C v m .started ∙ t) .dbccr
+    ∙ ap (λ (n : Machine). dbccrOf (n .shared)) (dbccr-first v m w)
+    ∙ omega (arith, bit-back (v / 16 % 2) (omega arith))
+
+pub letr-reads-back : (v : ℕ) (m : Machine) → m .started ≡ true → reading (written 0x40 v m) 0x40 ≡ v % 4
+unfolding letrWrite
+letr-reads-back v m t = ap (λ n. reading n 0x40) (takes v m .letr) ∙ reads (letrWrite v m) t .letr (omega arith)
+
+-- LETR's ticks, in that order.
+pub lock-times : map pulseTicks (0 ∷ 1 ∷ 2 ∷ 3 ∷ []) ≡ 12 ∷ 50 ∷ 100 ∷ 200 ∷ []
+unfolding pulseTicks
+lock-times = refl
+
+-- LOCK_CTL written from 1 to 0 in LOCK_MODE 1 starts a pulse of these ticks in an open bay.
+pub unlocking :
+    (i v : ℕ) (m : Machine) → isOpen m i ≡ true → lockMode (m .straps) ≡ true → bayAt m i .control .«lock_ctl» ≡ true → bit 7 v ≡ false
+    → bayAt (bcerWrite i v m) i .pulse ≡ pulseTicks (m .shared .«lock_time»)
+unfolding bcerWrite
+unlocking i v m o mode l h =
+    rw (chosen o, put-bay i) (bcer-pulses v (lockMode (m .straps)) (pulseTicks (m .shared .«lock_time»)) (bayAt m i) .begins mode l h)
+
+-- ---- closing bay 1
+
+-- The first write of DBCCR with count 1 makes bay 1's record empty and closes it. Every other first write leaves it, open. Bay 0
+-- is left either way.
+pub record Closing (v : ℕ) (before after : Machine) : Type 0 where
+  pub closed : v % 4 ≡ 1 → (isOpen after 1 ≡ false) × (bayAt after 1 ≡ emptyBay)
+  pub left-open : v % 4 ≢ 1 → (isOpen after 1 ≡ true) × (bayAt after 1 ≡ bayAt before 1)
+  pub other : bayAt after 0 ≡ bayAt before 0
+
+stored-closing : (v : ℕ) (m : Machine) → Closing v m (dbccrStored v m)
+unfolding dbccrStored openBy bayIn
+stored-closing v m =
+    record {
+      closed = λ e. (rw (eq-eqb (v % 4) 1 e), rw (eq-eqb (v % 4) 1 e));
+      left-open = λ n. (rw (ne-eqb (v % 4) 1 n), rw (ne-eqb (v % 4) 1 n));
+      other = refl;
+    }
+
+pub closing : (v : ℕ) (m : Machine) → m .shared .«dbccr_written» ≡ false → Closing v m (written 0x0C v m)
+closing v m w = subst (Closing v m) (sym (dbccr-first v m w)) (stored-closing v m)
+
+-- ---- RESET and PINS
+
+-- DBCCR and LETR read 0, DBCCR can be written, the phase is 0 and both bays are open.
+pub record Begun (straps : ℕ) (m : Machine) : Type 0 where
+  pub started : m .started ≡ true
+  pub straps-stored : m .straps ≡ straps
+  pub dbccr : reading m 0x0C ≡ 0
+  pub unwritten : m .shared .«dbccr_written» ≡ false
+  pub letr : reading m 0x40 ≡ 0
+  pub phase : m .phase ≡ 0
+  pub both-open : isOpen m 1 ≡ true
+
+pub reset-begins : (straps levels : ℕ) → Begun straps (resetTo straps levels)
+unfolding resetTo reading register registers dbccrOf openBy
+reset-begins straps levels =
+    record { started = refl; straps-stored = refl; dbccr = refl; unwritten = refl; letr = refl; phase = refl; both-open = refl }
+
+-- The levels n1394, nUSB, nREMREQ and nSL of bay 0 are bits 7 to 4, those of bay 1 bits 3 to 0.
+pub record Levels (levels top : ℕ) (b : Bay) : Type 0 where
+  pub n1394 : level b N1394 ≡ bit top levels
+  pub nusb : level b NUSB ≡ bit (top - 1) levels
+  pub nremreq : level b NREMREQ ≡ bit (top - 2) levels
+  pub nsl : b .«n_sl» ≡ bit (top - 3) levels
+
+same-bit : (m n : ℕ) → m ≡ n → eqb m 1 ≡ eqb n 1
+same-bit m n e = ap (λ k. eqb k 1) e
+
+high : (levels : ℕ) (b : Bay) → Sensed (levels / 16) b → Levels levels 7 b
+high levels b s =
+    record {
+      n1394 = s .n1394 ∙ same-bit (levels / 16 / 8 % 2) (levels / 128 % 2) (omega arith);
+      nusb = s .nusb ∙ same-bit (levels / 16 / 4 % 2) (levels / 64 % 2) (omega arith);
+      nremreq = s .nremreq ∙ same-bit (levels / 16 / 2 % 2) (levels / 32 % 2) (omega arith);
+      nsl = s .nsl ∙ same-bit (levels / 16 / 1 % 2) (levels / 16 % 2) (omega arith);
+    }
+
+low : (levels : ℕ) (b : Bay) → Sensed (levels % 16) b → Levels levels 3 b
+low levels b s =
+    record {
+      n1394 = s .n1394 ∙ same-bit (levels % 16 / 8 % 2) (levels / 8 % 2) (omega arith);
+      nusb = s .nusb ∙ same-bit (levels % 16 / 4 % 2) (levels / 4 % 2) (omega arith);
+      nremreq = s .nremreq ∙ same-bit (levels % 16 / 2 % 2) (levels / 2 % 2) (omega arith);
+      nsl = s .nsl ∙ same-bit (levels % 16 / 1 % 2) (levels / 1 % 2) (omega arith);
+    }
+
+pub reset-levels : (straps levels : ℕ) → Levels levels 7 (bayAt (resetTo straps levels) 0) × Levels levels 3 (bayAt (resetTo straps levels) 1)
+unfolding resetTo bayIn
+reset-levels straps levels = (high levels _ (reset-senses _ _), low levels _ (reset-senses _ _))
+
+pub pins-levels :
+    (levels : ℕ) (m : Machine)
+    → Levels levels 7 (bayAt (pinsTo levels m) 0) × (isOpen m 1 ≡ true → Levels levels 3 (bayAt (pinsTo levels m) 1))
+unfolding pinsTo bayIn sampledAt openBy
+pins-levels levels m = (high levels _ (sampled (levels / 16) (bayAt m 0) .senses), λ o. rw (chosen o) (low levels _ (sampled (levels % 16) (bayAt m 1) .senses)))

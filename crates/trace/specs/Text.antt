@@ -1,0 +1,49 @@
+-- The text of a trace (document 01, "Bench examples"): the program starts from a fresh state and reads words, high byte first; it
+-- prints the header, then a line for each word; a lone last byte prints `odd`. Bytes and characters are their numbers.
+use Prim.Native.Nat.{ℕ, zero, suc, _+_, _*_}
+use Prim.Native.Char.{code}
+use Prim.Native.String.{String, len, charAt}
+use mathlib.Core.List.{List, [], _∷_, _++_}
+use Rattle.dock.specs.Record.{freshController}
+use Rattle.dock.specs.Step.{stepOf}
+use Rattle.dock.specs.declared.Controller.{Controller}
+use Rattle.trace.specs.Line.{lineOf}
+
+-- A text's characters: n of them, from a place on.
+abbrev charactersFrom : String → ℕ → ℕ → List ℕ
+charactersFrom t at zero = []
+charactersFrom t at (suc n) = code (charAt t at) ∷ charactersFrom t (suc at) n
+
+abbrev pub characters : String → List ℕ
+characters t = charactersFrom t 0 (len t)
+
+unfoldable pub header : List ℕ
+header = characters "word ref rep byte out\n"
+
+unfoldable pub odd : List ℕ
+odd = characters "odd\n"
+
+-- The words in a list of bytes, high byte first.
+unfoldable pub wordsIn : List ℕ → List ℕ
+wordsIn [] = []
+wordsIn (b ∷ []) = []
+wordsIn (high ∷ (low ∷ rest)) = (high * 256 + low) ∷ wordsIn rest
+
+-- The lone last byte, where there is one.
+unfoldable pub loneIn : List ℕ → List ℕ
+loneIn [] = []
+loneIn (b ∷ []) = b ∷ []
+loneIn (high ∷ (low ∷ rest)) = loneIn rest
+
+-- A line for each word in order, from a state.
+unfoldable pub linesOf : Controller → List ℕ → List ℕ
+linesOf s [] = []
+linesOf s (w ∷ ws) = lineOf w (stepOf s w .answer) ++ linesOf (stepOf s w .controller) ws
+
+unfoldable pub oddFor : List ℕ → List ℕ
+oddFor [] = []
+oddFor (b ∷ rest) = odd
+
+-- The whole text, by all bytes of the input.
+unfoldable pub textOf : List ℕ → List ℕ
+textOf bytes = header ++ (linesOf freshController (wordsIn bytes) ++ oddFor (loneIn bytes))
