@@ -11,10 +11,11 @@ use borrow.Author.Tests.{eqb-true, not-true}
 use Rattle.bits.specs.Straps.{lockMode}
 use Rattle.bay.specs.declared.Bay.{Bay}
 use Rattle.bay.specs.Record.{emptyBay, resetBay}
-use Rattle.bay.specs.Debounce.{sampledBay}
 use Rattle.bay.specs.Moves.{tickedBay}
-use Rattle.bay.specs.Registers.{bstrWritten, controlOf, controlledBay}
+use Rattle.bay.specs.Registers.{controlOf, controlledBay}
 use Rattle.bay.proofs.Taut.{pick}
+use Rattle.bay.proofs.Laws.{sampled}
+use Rattle.bay.proofs.Named.{bstr-clears}
 use Rattle.machine.specs.Record.{bayAt, bayIn, openBy, isOpen}
 use Rattle.machine.specs.Registers.{dbccrStored, dbccrWrite, letrWrite, pulseTicks, bstrWrite, bcerWrite, writes, written}
 use Rattle.machine.specs.Moves.{bcerAddress, closes, movesBay}
@@ -80,8 +81,8 @@ Still : Machine → ℕ → Machine → Type 0
 Still m i after = bayAt after i .state ≡ bayAt m i .state
 
 sampled-still : (m : Machine) (i levels : ℕ) → sampledAt m i levels .state ≡ bayAt m i .state
-unfolding sampledAt sampledBay
-sampled-still m i levels = pick (λ (b : Bay). b .state ≡ bayAt m i .state) (isOpen m i) (λ o. refl) (λ o. refl)
+unfolding sampledAt
+sampled-still m i levels = pick (λ (b : Bay). b .state ≡ bayAt m i .state) (isOpen m i) (λ o. sampled levels (bayAt m i) .state-kept) (λ o. refl)
 
 pins-still : (levels : ℕ) (m : Machine) (i : ℕ) → Still m i (pinsTo levels m)
 unfolding pinsTo bayIn Still
@@ -110,8 +111,8 @@ dbccr-still v m i h = pick (Still m i) (m .shared .«dbccr_written») (λ d. ref
     go false false k = refl
 
 bstr-still : (j v : ℕ) (m : Machine) (i : ℕ) → Still m i (bstrWrite j v m)
-unfolding bstrWrite bstrWritten Still
-bstr-still j v m i = pick (Still m i) (isOpen m j) (λ o. put-keeps j i _ (m .bays) refl) (λ o. refl)
+unfolding bstrWrite Still
+bstr-still j v m i = pick (Still m i) (isOpen m j) (λ o. put-keeps j i _ (m .bays) (bstr-clears v (bayAt m j) .state-kept)) (λ o. refl)
 
 -- The other bay's BCER, or the own of a closed bay.
 bcer-still : (j v : ℕ) (m : Machine) (i : ℕ) → (eqb j 0 ≡ not (eqb i 0)) ⊎ (isOpen m j ≡ false) → Still m i (bcerWrite j v m)
