@@ -1,0 +1,80 @@
+-- A list of known length is its elements, so that what holds of every such list of elements holds of it. Assumes nothing.
+use Prim.Native.Nat.{ℕ, zero, suc}
+use mathlib.Core.Path.{_≡_, refl, ap, _∙_}
+use mathlib.Core.Bool.{Bool, true, false}
+use mathlib.Core.List.{List, [], _∷_, _++_, map}
+use lib.ListN.{length, getD, take, drop}
+use mir.Val.{boolByte}
+use Rattle.bus.specs.declared.Progress.{Progress}
+use Rattle.bus.specs.declared.Progress.the-variants.{Idle, Opened, Addressed, Register, Data, Again, Reading}
+use Rattle.dock.specs.declared.Controller.{Controller}
+use Rattle.image.specs.Layout.{LAYOUT, BYTES}
+use Rattle.image.specs.Save.{flagByte, flagsOf, numbersOf, progressBytes, saved}
+use Rattle.image.specs.Load.{byteAt, isSet, bayBy, machineIn}
+
+module _ {A : Type 0} where
+  abbrev pub spelled : ℕ → (ℕ → A) → List A
+  spelled zero f = []
+  spelled (suc n) f = f zero ∷ spelled n (λ i. f (suc i))
+
+  is-spelled : (d : A) (xs : List A) → spelled (length xs) (λ i. getD xs i d) ≡ xs
+  is-spelled d [] = refl
+  is-spelled d (x ∷ xs) = ap (λ l. x ∷ l) (is-spelled d xs)
+
+  pub by-elements : (d : A) (n : ℕ) (P : List A → Type 0) → ((f : ℕ → A) → P (spelled n f)) → (xs : List A) → length xs ≡ n → P xs
+  by-elements d n P h xs e = rw (← is-spelled d xs, e) (h (λ i. getD xs i d))
+
+-- An element of a list of bytes read as flags is that byte read as a flag.
+pub flag-at : (bs : List ℕ) (i : ℕ) → getD (map isSet bs) i false ≡ isSet (getD bs i 0)
+flag-at [] i = refl
+flag-at (b ∷ bs) zero = refl
+flag-at (b ∷ bs) (suc i) = flag-at bs i
+
+-- A machine's parts in as many bytes as an image has, each at its place.
+pub machine-parts :
+    (bytes : List ℕ) → length bytes ≡ BYTES
+    → machineIn bytes
+    ≡ record {
+      started = isSet (byteAt bytes 1);
+      straps = byteAt bytes 32;
+      shared =
+          record {
+            «dbccr_written» = isSet (byteAt bytes 2);
+            seclock = isSet (byteAt bytes 3);
+            «bay_count» = byteAt bytes 33;
+            «lock_time» = byteAt bytes 34;
+          };
+      phase = byteAt bytes 35;
+      bays =
+          bayBy (map isSet (take 14 (drop 4 bytes))) (take 6 (drop 36 bytes)) ∷ bayBy (map isSet (take 14 (drop 18 bytes))) (take 6 (drop 42 bytes))
+          ∷ [];
+    }
+machine-parts = by-elements 0 BYTES _ (λ f. refl)
+
+-- The three bytes of a command in progress, one by one.
+abbrev pub three : List ℕ → List ℕ
+three bytes = byteAt bytes 0 ∷ byteAt bytes 1 ∷ byteAt bytes 2 ∷ []
+
+three-are : (p : Progress) → three (progressBytes p) ≡ progressBytes p
+unfolding progressBytes
+three-are Idle = refl
+three-are Opened = refl
+three-are Addressed = refl
+three-are (Register r) = refl
+three-are (Data r v) = refl
+three-are (Again r) = refl
+three-are (Reading v) = refl
+
+-- A flag as the code casts it to a byte.
+cast-flags : (fs : List Bool) → map boolByte fs ≡ map flagByte fs
+cast-flags [] = refl
+cast-flags (true ∷ fs) = ap (λ l. 1 ∷ l) (cast-flags fs)
+cast-flags (false ∷ fs) = ap (λ l. 0 ∷ l) (cast-flags fs)
+
+pub put-together :
+    (s : Controller)
+    → LAYOUT ∷ (map boolByte (flagsOf (s .machine)) ++ (numbersOf (s .machine) ++ three (progressBytes (s .progress)))) ≡ saved s
+unfolding saved
+put-together s =
+    ap (λ l. LAYOUT ∷ (l ++ (numbersOf (s .machine) ++ three (progressBytes (s .progress))))) (cast-flags (flagsOf (s .machine)))
+    ∙ ap (λ l. LAYOUT ∷ (map flagByte (flagsOf (s .machine)) ++ (numbersOf (s .machine) ++ l))) (three-are (s .progress))

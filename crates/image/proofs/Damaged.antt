@@ -1,0 +1,43 @@
+-- Damaged images of a fresh controller, one of each kind, and what each is told to be. Assumes nothing.
+use Prim.Native.Nat.{ℕ}
+use mathlib.Core.Path.{_≡_, refl}
+use mathlib.Core.Bool.{false}
+use mathlib.Core.List.{List}
+use lib.ListN.{set, drop}
+use Rattle.bay.specs.Record.{emptyBay}
+use Rattle.machine.specs.Record.{freshMachine, fits}
+use Rattle.dock.specs.Record.{freshController}
+use Rattle.image.specs.Save.{progressBytes, saved}
+use Rattle.image.specs.Load.{firstOver, progressVerdict, sizedVerdict, verdictOn, stateIn}
+use Rattle.image.specs.declared.Verdict.the-variants.{Whole, WrongLength, UnknownVersion, NotAFlag, UnknownProgress, NotUsed}
+
+-- The image with another byte at a place.
+abbrev pub damaged : ℕ → ℕ → List ℕ
+damaged i b = set (saved freshController) i b
+
+pub record Told : Type 0 where
+  pub short : verdictOn (drop 1 (saved freshController)) ≡ WrongLength
+  pub version : verdictOn (damaged 0 2) ≡ UnknownVersion
+  pub first-flag : verdictOn (damaged 1 2) ≡ NotAFlag 1
+  pub last-flag : verdictOn (damaged 31 255) ≡ NotAFlag 31
+  pub progress : verdictOn (damaged 48 7) ≡ UnknownProgress
+  pub first-byte : verdictOn (damaged 49 1) ≡ NotUsed 49
+  pub second-byte : verdictOn (damaged 50 1) ≡ NotUsed 50
+  -- A number out of its range is no damage to the image: the state is loaded as it is, and is not fit.
+  pub phase : verdictOn (damaged 35 200) ≡ Whole
+  pub unfit : fits (stateIn (damaged 35 200) .machine) ≡ false
+
+pub damage-told : Told
+unfolding verdictOn sizedVerdict progressVerdict firstOver stateIn saved progressBytes freshController freshMachine emptyBay fits
+damage-told =
+    record {
+      short = refl;
+      version = refl;
+      first-flag = refl;
+      last-flag = refl;
+      progress = refl;
+      first-byte = refl;
+      second-byte = refl;
+      phase = refl;
+      unfit = refl;
+    }

@@ -1,0 +1,9 @@
+pub mod Flags
+pub mod Bytes
+pub mod Whole
+pub mod RoundTrip
+pub mod Places
+pub mod Determined
+pub mod Shape
+pub mod Told
+pub mod Damaged

@@ -1,0 +1,234 @@
+-- A state and its image. `load (save s)` is `s` for every record that the code's types can hold, fit or not; what was loaded saves as
+-- the bytes it came from, so that a state has one image. Assumes nothing.
+use Prim.Native.Nat.{ℕ, zero, suc, _+_}
+use native.Mathlib.Omega.{arith}
+use mathlib.Core.Path.{_≡_, refl, ap, sym, _∙_}
+use mathlib.Core.Logic.{_↔_}
+use mathlib.Core.Bool.{Bool, true, false, cond, _&&_, false≢true}
+use mathlib.Core.List.{List, [], _∷_, _++_, map}
+use lib.Dec.{eqb, leb}
+use lib.ListN.{length, getD}
+use borrow.Author.Tests.{leb-true, lt-leb, eqb-true}
+use Rattle.bay.specs.Record.{noBay}
+use Rattle.bay.specs.declared.Bay.{Bay}
+use Rattle.bus.specs.declared.Progress.{Progress}
+use Rattle.bus.specs.declared.Progress.the-variants.{Idle, Opened, Addressed, Register, Data, Again, Reading}
+use Rattle.machine.specs.Record.{bay0, bay1, bayIn}
+use Rattle.machine.specs.declared.Machine.{Machine}
+use Rattle.dock.specs.declared.Controller.{Controller}
+use Rattle.machine.proofs.Bays.{each}
+use Rattle.image.specs.Layout.{LAYOUT, BYTES}
+use Rattle.image.specs.Save.{flagByte, bayFlags, bayNumbers, flagsOf, numbersOf, progressBytes, saved}
+use Rattle.image.specs.Load.{byteAt, flagBytes, numbersIn, allFlags, firstOver, whole, progressVerdict, sizedVerdict, verdictOn, isImage, isSet, bayBy, machineBy, progressBy, stateIn, loadOf}
+use Rattle.image.specs.Shape.{ShapedBay, Shaped}
+use Rattle.image.specs.declared.Verdict.the-variants.{Whole, WrongLength, UnknownVersion, NotAFlag, NotUsed}
+use Rattle.image.proofs.Bytes.{by-elements}
+
+-- ---- a saved state, loaded
+
+set-back : (fs : List Bool) → map isSet (map flagByte fs) ≡ fs
+set-back [] = refl
+set-back (true ∷ fs) = ap (λ l. true ∷ l) (set-back fs)
+set-back (false ∷ fs) = ap (λ l. false ∷ l) (set-back fs)
+
+are-flags : (fs : List Bool) → allFlags (map flagByte fs) ≡ true
+are-flags [] = refl
+are-flags (true ∷ fs) = are-flags fs
+are-flags (false ∷ fs) = are-flags fs
+
+module _ {A : Type 0} (d : A) where
+  three-are : (xs : List A) → length xs ≡ 3 → getD xs 0 d ∷ getD xs 1 d ∷ getD xs 2 d ∷ [] ≡ xs
+  three-are = by-elements d 3 (λ xs. getD xs 0 d ∷ getD xs 1 d ∷ getD xs 2 d ∷ [] ≡ xs) (λ f. refl)
+
+  two-are : (xs : List A) → length xs ≡ 2 → getD xs 0 d ∷ getD xs 1 d ∷ [] ≡ xs
+  two-are = by-elements d 2 (λ xs. getD xs 0 d ∷ getD xs 1 d ∷ [] ≡ xs) (λ f. refl)
+
+bay-back : (b : Bay) → ShapedBay b → bayBy (bayFlags b) (bayNumbers b) ≡ b
+bay-back b h =
+    rw (three-are false (b .levels) (h .levels), three-are false (b .accepted) (h .accepted), three-are 0 (b .counts) (h .counts)) refl
+
+machine-back : (m : Machine) → Shaped m → machineBy (flagsOf m) (numbersOf m) ≡ m
+unfolding bayIn
+machine-back m h =
+    rw (bay-back (bay0 (m .bays)) (h .bays 0), bay-back (bay1 (m .bays)) (h .bays 1), two-are noBay (m .bays) (h .two)) refl
+
+progress-back : (p : Progress) → progressBy (byteAt (progressBytes p) 0) (byteAt (progressBytes p) 1) (byteAt (progressBytes p) 2) ≡ p
+unfolding progressBytes
+progress-back Idle = refl
+progress-back Opened = refl
+progress-back Addressed = refl
+progress-back (Register r) = refl
+progress-back (Data r v) = refl
+progress-back (Again r) = refl
+progress-back (Reading v) = refl
+
+progress-whole : (p : Progress) → progressVerdict (byteAt (progressBytes p) 0) (byteAt (progressBytes p) 1) (byteAt (progressBytes p) 2) ≡ Whole
+unfolding progressBytes progressVerdict
+progress-whole Idle = refl
+progress-whole Opened = refl
+progress-whole Addressed = refl
+progress-whole (Register r) = refl
+progress-whole (Data r v) = refl
+progress-whole (Again r) = refl
+progress-whole (Reading v) = refl
+
+three-long : (p : Progress) → length (progressBytes p) ≡ 3
+unfolding progressBytes
+three-long Idle = refl
+three-long Opened = refl
+three-long Addressed = refl
+three-long (Register r) = refl
+three-long (Data r v) = refl
+three-long (Again r) = refl
+three-long (Reading v) = refl
+
+pub saved-length : (s : Controller) → length (saved s) ≡ BYTES
+unfolding saved
+saved-length s = rw (three-long (s .progress)) refl
+
+saved-whole : (s : Controller) → verdictOn (saved s) ≡ Whole
+unfolding verdictOn sizedVerdict saved
+saved-whole s = rw (saved-length s, are-flags (flagsOf (s .machine)), progress-whole (s .progress))
+
+pub saved-image : (s : Controller) → isImage (saved s) ≡ true
+unfolding isImage
+saved-image s = ap whole (saved-whole s)
+
+pub state-back : (s : Controller) → Shaped (s .machine) → stateIn (saved s) ≡ s
+unfolding stateIn saved
+state-back s h =
+    ap (λ fs. held (machineBy fs (numbersOf (s .machine))) (progressBy (byteAt (progressBytes (s .progress)) 0) (byteAt (progressBytes (s .progress)) 1) (byteAt (progressBytes (s .progress)) 2))) (set-back (flagsOf (s .machine)))
+    ∙ ap (λ m. held m (progressBy (byteAt (progressBytes (s .progress)) 0) (byteAt (progressBytes (s .progress)) 1) (byteAt (progressBytes (s .progress)) 2))) (machine-back (s .machine) h)
+    ∙ ap (λ p. held (s .machine) p) (progress-back (s .progress))
+  where
+    held : Machine → Progress → Controller
+    held m p = record { machine = m; progress = p }
+
+pub load-saved : (s : Controller) → Shaped (s .machine) → loadOf (saved s) ≡ record { verdict = Whole; controller = s }
+unfolding loadOf
+load-saved s h = rw (saved-whole s) (ap (λ t. record { verdict = Whole; controller = t }) (state-back s h))
+
+-- ---- bytes that are an image, loaded and saved
+
+pub record Parts (bytes : List ℕ) : Type 0 where
+  pub long : length bytes ≡ BYTES
+  pub version : byteAt bytes 0 ≡ LAYOUT
+  pub flags : allFlags (flagBytes bytes) ≡ true
+  pub progress : progressVerdict (byteAt bytes 48) (byteAt bytes 49) (byteAt bytes 50) ≡ Whole
+
+-- What a verdict of `Whole` says.
+pub parts : (bytes : List ℕ) → verdictOn bytes ≡ Whole → Parts bytes
+unfolding verdictOn sizedVerdict
+parts bytes e = go (eqb (length bytes) BYTES) refl (eqb (byteAt bytes 0) LAYOUT) refl (allFlags (flagBytes bytes)) refl e
+  where
+    go :
+        (l : Bool) → eqb (length bytes) BYTES ≡ l → (v : Bool) → eqb (byteAt bytes 0) LAYOUT ≡ v → (f : Bool) → allFlags (flagBytes bytes) ≡ f
+        → cond l (cond v (cond f (progressVerdict (byteAt bytes 48) (byteAt bytes 49) (byteAt bytes 50)) (NotAFlag (1 + firstOver (flagBytes bytes)))) UnknownVersion) WrongLength ≡ Whole
+        → Parts bytes
+    go false l v p f q e = absurd (false≢true (ap whole e))
+    go true l false p f q e = absurd (false≢true (ap whole e))
+    go true l true p false q e = absurd (false≢true (ap whole e))
+    go true l true p true q e = record { long = eqb-true _ BYTES l; version = eqb-true _ LAYOUT p; flags = q; progress = e }
+
+flag-back : (b : ℕ) → leb b 1 ≡ true → flagByte (isSet b) ≡ b
+flag-back zero h = refl
+flag-back (suc zero) h = refl
+flag-back (suc (suc b)) h = absurd (omega (arith, leb-true (suc (suc b)) 1 h))
+
+and-parts : (a b : Bool) → (a && b) ≡ true → (a ≡ true) × (b ≡ true)
+and-parts true b h = (refl, h)
+and-parts false b h = absurd (false≢true h)
+
+flags-back : (bs : List ℕ) → allFlags bs ≡ true → map flagByte (map isSet bs) ≡ bs
+flags-back [] h = refl
+flags-back (b ∷ bs) h =
+    let t = and-parts (leb b 1) (allFlags bs) h in
+    rw (flag-back b (t .0)) (ap (λ l. b ∷ l) (flags-back bs (t .1)))
+
+first-zero : (a b i j : ℕ) → cond (eqb a 0) (cond (eqb b 0) Whole (NotUsed i)) (NotUsed j) ≡ Whole → (a ≡ 0) × (b ≡ 0)
+first-zero a b i j = go (eqb a 0) refl (eqb b 0) refl
+  where
+    go : (t : Bool) → eqb a 0 ≡ t → (u : Bool) → eqb b 0 ≡ u → cond t (cond u Whole (NotUsed i)) (NotUsed j) ≡ Whole → (a ≡ 0) × (b ≡ 0)
+    go true p true q h = (eqb-true a 0 p, eqb-true b 0 q)
+    go true p false q h = absurd (false≢true (ap whole h))
+    go false p u q h = absurd (false≢true (ap whole h))
+
+second-zero : (b i : ℕ) → cond (eqb b 0) Whole (NotUsed i) ≡ Whole → b ≡ 0
+second-zero b i h = first-zero 0 b i 0 h .1
+
+progress-bytes-back : (which a b : ℕ) → progressVerdict which a b ≡ Whole → progressBytes (progressBy which a b) ≡ which ∷ a ∷ b ∷ []
+unfolding progressVerdict progressBytes
+progress-bytes-back zero a b h = let z = first-zero a b 50 49 h in rw (z .0, z .1) refl
+progress-bytes-back (suc zero) a b h = let z = first-zero a b 50 49 h in rw (z .0, z .1) refl
+progress-bytes-back (suc (suc zero)) a b h = let z = first-zero a b 50 49 h in rw (z .0, z .1) refl
+progress-bytes-back (suc (suc (suc zero))) a b h = rw (second-zero b 50 h) refl
+progress-bytes-back (suc (suc (suc (suc zero)))) a b h = refl
+progress-bytes-back (suc (suc (suc (suc (suc zero))))) a b h = rw (second-zero b 50 h) refl
+progress-bytes-back (suc (suc (suc (suc (suc (suc zero)))))) a b h = rw (second-zero b 50 h) refl
+progress-bytes-back (suc (suc (suc (suc (suc (suc (suc n))))))) a b h =
+    absurd (false≢true (ap whole (rw (lt-leb (suc (suc (suc (suc (suc (suc (suc n))))))) 6 (omega arith)) at h)))
+
+flags-of : (fs : List Bool) (ns : List ℕ) → length fs ≡ 31 → flagsOf (machineBy fs ns) ≡ fs
+flags-of fs ns = by-elements false 31 (λ fs. flagsOf (machineBy fs ns) ≡ fs) (λ f. refl) fs
+
+numbers-of : (fs : List Bool) (ns : List ℕ) → length ns ≡ 16 → numbersOf (machineBy fs ns) ≡ ns
+numbers-of fs ns = by-elements 0 16 (λ ns. numbersOf (machineBy fs ns) ≡ ns) (λ f. refl) ns
+
+put-back :
+    (bytes : List ℕ) → length bytes ≡ BYTES
+    → byteAt bytes 0 ∷ (flagBytes bytes ++ (numbersIn bytes ++ (byteAt bytes 48 ∷ byteAt bytes 49 ∷ byteAt bytes 50 ∷ []))) ≡ bytes
+put-back = by-elements 0 BYTES _ (λ f. refl)
+
+pub flag-bytes-long : (bytes : List ℕ) → length bytes ≡ BYTES → length (flagBytes bytes) ≡ 31
+flag-bytes-long = by-elements 0 BYTES _ (λ f. refl)
+
+flags-long : (bytes : List ℕ) → length bytes ≡ BYTES → length (map isSet (flagBytes bytes)) ≡ 31
+flags-long = by-elements 0 BYTES _ (λ f. refl)
+
+numbers-long : (bytes : List ℕ) → length bytes ≡ BYTES → length (numbersIn bytes) ≡ 16
+numbers-long = by-elements 0 BYTES _ (λ f. refl)
+
+pub saved-loaded : (bytes : List ℕ) → verdictOn bytes ≡ Whole → saved (stateIn bytes) ≡ bytes
+unfolding saved stateIn
+saved-loaded bytes e =
+    let t = parts bytes e in
+    ap (λ f. image LAYOUT f (numbersOf machine) (progressBytes progress))
+    (ap (map flagByte) (flags-of (map isSet (flagBytes bytes)) (numbersIn bytes) (flags-long bytes (t .long))) ∙ flags-back (flagBytes bytes) (t .flags))
+    ∙ ap (λ n. image LAYOUT (flagBytes bytes) n (progressBytes progress)) (numbers-of (map isSet (flagBytes bytes)) (numbersIn bytes) (numbers-long bytes (t .long)))
+    ∙ ap (image LAYOUT (flagBytes bytes) (numbersIn bytes)) (progress-bytes-back _ _ _ (t .progress))
+    ∙ ap (λ v. image v (flagBytes bytes) (numbersIn bytes) (byteAt bytes 48 ∷ byteAt bytes 49 ∷ byteAt bytes 50 ∷ [])) (sym (t .version))
+    ∙ put-back bytes (t .long)
+  where
+    image : ℕ → List ℕ → List ℕ → List ℕ → List ℕ
+    image version flags numbers progress = version ∷ (flags ++ (numbers ++ progress))
+
+    machine : Machine
+    machine = machineBy (map isSet (flagBytes bytes)) (numbersIn bytes)
+
+    progress : Progress
+    progress = progressBy (byteAt bytes 48) (byteAt bytes 49) (byteAt bytes 50)
+
+-- So a state has one image: two images of one state are the same bytes.
+pub one-image : (xs ys : List ℕ) → verdictOn xs ≡ Whole → verdictOn ys ≡ Whole → stateIn xs ≡ stateIn ys → xs ≡ ys
+one-image xs ys p q e = sym (saved-loaded xs p) ∙ ap saved e ∙ saved-loaded ys q
+
+-- The state of bytes has the shape of a record, whatever the bytes are.
+pub loaded-shaped : (bytes : List ℕ) → Shaped (stateIn bytes .machine)
+unfolding stateIn
+loaded-shaped bytes =
+    record {
+      two = refl;
+      bays =
+          each ShapedBay (stateIn bytes .machine .bays) (record { levels = refl; accepted = refl; counts = refl })
+          (record { levels = refl; accepted = refl; counts = refl });
+    }
+
+-- Bytes are an image exactly where they are the bytes of some record.
+pub record Image (bytes : List ℕ) : Type 0 where
+  pub state : Controller
+  pub shaped : Shaped (state .machine)
+  pub is : saved state ≡ bytes
+
+pub images-exactly : (bytes : List ℕ) → (verdictOn bytes ≡ Whole) ↔ Image bytes
+images-exactly bytes =
+    (λ e. record { state = stateIn bytes; shaped = loaded-shaped bytes; is = saved-loaded bytes e }, λ i. rw (← i .is) (saved-whole (i .state)))

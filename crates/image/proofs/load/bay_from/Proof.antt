@@ -1,0 +1,41 @@
+-- `image::load::bay_from` meets its contract: each field is its byte. Assumes nothing.
+use mathlib.Core.Path.{refl}
+use borrow.Author.Needs.{needs}
+use Rattle.image.proofs.Bytes.{flag-at}
+use Rattle.image.proofs.load.bay_from.Statement.{statement}
+use Rattle.image.proofs.load.bay_from.Tie as tie
+
+returns : tie.Need-returns
+returns c = simp (flag-at) refl
+
+pub bay-from-spec : {M : Type 1} → statement M
+bay-from-spec =
+    tie.close
+    (tie.spec
+    (λ c. search needs)
+    (λ c. search needs)
+    (λ c. search needs)
+    (λ c. search needs)
+    (λ c. search needs)
+    (λ c. search needs)
+    (λ c. search needs)
+    (λ c. search needs)
+    (λ c. search needs)
+    (λ c. search needs)
+    (λ c. search needs)
+    (λ c. search needs)
+    (λ c. search needs)
+    (λ c. search needs)
+    (λ c. search needs)
+    (λ c. search needs)
+    (λ c. search needs)
+    (λ c. search needs)
+    (λ c. search needs)
+    (λ c. search needs)
+    (λ c. search needs)
+    (λ c. search needs)
+    (λ c. search needs)
+    (λ c. search needs)
+    (λ c. search needs)
+    (λ c. search needs)
+    returns)

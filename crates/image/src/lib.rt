@@ -1,0 +1,96 @@
+// A controller's state as bytes: `save` writes them, and `load` answers any bytes at all.
+pub mod load;
+pub mod save;
+
+use dock::Controller;
+
+// ---- the layout: its version, then the flags, each a byte of 0 or 1, then the numbers, then the command in progress
+
+// The version rises whenever a byte, what it may hold or the length changes.
+pub const LAYOUT: u8 = 1;
+
+pub const BYTES: usize = 51;
+
+pub const VERSION: usize = 0;
+
+// Flags.
+pub const STARTED: usize = 1;
+
+pub const DBCCR_WRITTEN: usize = 2;
+
+pub const SECLOCK: usize = 3;
+
+pub const FLAGS_0: usize = 4;
+
+pub const FLAGS_1: usize = 18;
+
+// Numbers.
+pub const STRAPS: usize = 32;
+
+pub const BAY_COUNT: usize = 33;
+
+pub const LOCK_TIME: usize = 34;
+
+pub const PHASE: usize = 35;
+
+pub const NUMBERS_0: usize = 36;
+
+pub const NUMBERS_1: usize = 42;
+
+// The command in progress: which it is, and the two bytes that it may hold.
+pub const PROGRESS: usize = 48;
+
+pub const FIRST: usize = 49;
+
+pub const SECOND: usize = 50;
+
+// ---- the flags of a bay, from FLAGS_0 or FLAGS_1; n1394, nUSB and nREMREQ for levels and accepted levels
+
+pub const LEVELS: usize = 0;
+
+pub const ACCEPTED: usize = 3;
+
+pub const N_SL: usize = 6;
+
+pub const REMREQ_STS: usize = 7;
+
+pub const DEVSTSCHG: usize = 8;
+
+pub const LOCK_CTL: usize = 9;
+
+pub const REMREQ_EN: usize = 10;
+
+pub const DEVSTSCHG_EN: usize = 11;
+
+pub const REMEVTWAK_EN: usize = 12;
+
+pub const PWR_CTL: usize = 13;
+
+// ---- the numbers of a bay, from NUMBERS_0 or NUMBERS_1; n1394, nUSB and nREMREQ for the counts
+
+pub const COUNTS: usize = 0;
+
+pub const STATE: usize = 3;
+
+pub const REQUEST: usize = 4;
+
+pub const PULSE: usize = 5;
+
+// What bytes are.
+pub enum Verdict {
+    // An image: of a state that may be unfit.
+    Whole,
+    WrongLength,
+    UnknownVersion,
+    // The byte at this place is above 1, and it is a flag.
+    NotAFlag(usize),
+    UnknownProgress,
+    // The byte at this place isn't 0, and the command in progress doesn't use it.
+    NotUsed(usize),
+}
+
+// The state is a fresh one where the bytes are no image.
+pub struct Loaded {
+    pub verdict: Verdict,
+    pub controller: Controller,
+}
