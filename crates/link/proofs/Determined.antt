@@ -1,20 +1,21 @@
--- The contract of each exported call, as the checker reads it, determines the call's answer, and of a replay also the buffer that it
--- leaves. Assumes nothing.
+-- The contract of each exported call, as the checker reads it, determines the call's answer and every byte that it leaves. Assumes
+-- nothing.
 use Prim.Native.Nat.{ℕ}
 use mathlib.Core.Path.{_≡_, _∙_, sym}
 use mathlib.Core.List.{List}
 use denote.Ref.{RefT, now}
-use Rattle.link.proofs.dock_replay.Reads as replay-reads
-use Rattle.link.proofs.dock_unpack.Reads as unpack-reads
-use Rattle.link.proofs.dock_pack.Reads as pack-reads
-use Rattle.link.proofs.dock_reading.Reads as reading-reads
-use Rattle.link.proofs.dock_outputs.Reads as outputs-reads
+use Rattle.link.proofs.version.dock_version.Reads as version-reads
+use Rattle.link.proofs.events.dock_unpack.Reads as unpack-reads
+use Rattle.link.proofs.events.dock_pack.Reads as pack-reads
+use Rattle.link.proofs.replay.dock_replay.Reads as replay-reads
+use Rattle.link.proofs.held.dock_begin.Reads as begin-reads
+use Rattle.link.proofs.held.dock_step.Reads as step-reads
+use Rattle.link.proofs.held.dock_batch.Reads as batch-reads
+use Rattle.link.proofs.held.dock_reading.Reads as reading-reads
+use Rattle.link.proofs.held.dock_outputs.Reads as outputs-reads
 
-pub replay-determined :
-    (κs : _) (words records : RefT (List ℕ)) (r s : ℕ) (left left′ : RefT (List ℕ))
-    → replay-reads.Post κs (words, (records, tt)) r (words, (left, tt)) → replay-reads.Post κs (words, (records, tt)) s (words, (left′, tt))
-    → (r ≡ s) × (now left ≡ now left′)
-replay-determined κs words records r s left left′ p q = (p .0 ∙ sym (q .0), p .1 ∙ sym (q .1))
+pub version-determined : (r s : ℕ) → version-reads.Post tt tt r tt → version-reads.Post tt tt s tt → r ≡ s
+version-determined r s p q = p ∙ sym q
 
 pub unpack-determined : (w r s : ℕ) → unpack-reads.Post tt (w, tt) r (w, tt) → unpack-reads.Post tt (w, tt) s (w, tt) → r ≡ s
 unpack-determined w r s p q = p ∙ sym q
@@ -23,10 +24,37 @@ pub pack-determined :
     (k a b r s : ℕ) → pack-reads.Post tt (k, (a, (b, tt))) r (k, (a, (b, tt))) → pack-reads.Post tt (k, (a, (b, tt))) s (k, (a, (b, tt))) → r ≡ s
 pack-determined k a b r s p q = p ∙ sym q
 
-pub reading-determined :
-    (κs : _) (words : RefT (List ℕ)) (a r s : ℕ)
-    → reading-reads.Post κs (words, (a, tt)) r (words, (a, tt)) → reading-reads.Post κs (words, (a, tt)) s (words, (a, tt)) → r ≡ s
-reading-determined κs words a r s p q = p ∙ sym q
+pub replay-determined :
+    (κs : _) (words records : RefT (List ℕ)) (r s : ℕ) (left left′ : RefT (List ℕ))
+    → replay-reads.Post κs (words, (records, tt)) r (words, (left, tt)) → replay-reads.Post κs (words, (records, tt)) s (words, (left′, tt))
+    → (r ≡ s) × (now left ≡ now left′)
+replay-determined κs words records r s left left′ p q = (p .0 ∙ sym (q .0), p .1 ∙ sym (q .1))
 
-pub outputs-determined : (κs : _) (words : RefT (List ℕ)) (r s : ℕ) → outputs-reads.Post κs (words, tt) r (words, tt) → outputs-reads.Post κs (words, tt) s (words, tt) → r ≡ s
-outputs-determined κs words r s p q = p ∙ sym q
+pub begin-determined :
+    (κs : _) (state : RefT (List ℕ)) (r s : ℕ) (left left′ : RefT (List ℕ))
+    → begin-reads.Post κs (state, tt) r (left, tt) → begin-reads.Post κs (state, tt) s (left′, tt)
+    → (r ≡ s) × (now left ≡ now left′)
+begin-determined κs state r s left left′ p q = (p .0 ∙ sym (q .0), p .1 ∙ sym (q .1))
+
+pub step-determined :
+    (κs : _) (state : RefT (List ℕ)) (w r s : ℕ) (left left′ : RefT (List ℕ))
+    → step-reads.Post κs (state, (w, tt)) r (left, (w, tt)) → step-reads.Post κs (state, (w, tt)) s (left′, (w, tt))
+    → (r ≡ s) × (now left ≡ now left′)
+step-determined κs state w r s left left′ p q = (p .0 ∙ sym (q .0), p .1 ∙ sym (q .1))
+
+pub batch-determined :
+    (κs : _) (state words records : RefT (List ℕ)) (r s : ℕ) (left left′ written written′ : RefT (List ℕ))
+    → batch-reads.Post κs (state, (words, (records, tt))) r (left, (words, (written, tt)))
+    → batch-reads.Post κs (state, (words, (records, tt))) s (left′, (words, (written′, tt)))
+    → (r ≡ s) × (now left ≡ now left′) × (now written ≡ now written′)
+batch-determined κs state words records r s left left′ written written′ p q =
+    (p .0 ∙ sym (q .0), p .1 .0 ∙ sym (q .1 .0), p .1 .1 ∙ sym (q .1 .1))
+
+pub reading-determined :
+    (κs : _) (state : RefT (List ℕ)) (a r s : ℕ)
+    → reading-reads.Post κs (state, (a, tt)) r (state, (a, tt)) → reading-reads.Post κs (state, (a, tt)) s (state, (a, tt)) → r ≡ s
+reading-determined κs state a r s p q = p ∙ sym q
+
+pub outputs-determined :
+    (κs : _) (state : RefT (List ℕ)) (r s : ℕ) → outputs-reads.Post κs (state, tt) r (state, tt) → outputs-reads.Post κs (state, tt) s (state, tt) → r ≡ s
+outputs-determined κs state r s p q = p ∙ sym q

@@ -1,1 +1,4 @@
-pub mod Link
+pub mod Answer
+pub mod Version
+pub mod Events
+pub mod Held

@@ -1,8 +1,8 @@
 -- `link::dock_pack` meets its contract: the answer of `pack` on the event that the numbers mean. Assumes nothing.
-use Rattle.link.specs.Link.{packedAs}
+use Rattle.link.specs.Events.{packedAs}
 use borrow.Author.Needs.{needs}
-use Rattle.link.proofs.dock_pack.Statement.{statement}
-use Rattle.link.proofs.dock_pack.Tie as tie
+use Rattle.link.proofs.events.dock_pack.Statement.{statement}
+use Rattle.link.proofs.events.dock_pack.Tie as tie
 
 returns : tie.Need-returns
 unfolding packedAs

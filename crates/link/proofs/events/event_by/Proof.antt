@@ -5,9 +5,9 @@ use mathlib.Core.Path.{_≡_, refl, sym}
 use borrow.Author.Needs.{needs}
 use Rattle.link.specs.declared.Meant.the-variants.{NoEvent}
 use Rattle.event.proofs.Rows.{by-kind}
-use Rattle.link.specs.Link.{meantBy}
-use Rattle.link.proofs.event_by.Statement.{statement}
-use Rattle.link.proofs.event_by.Tie as tie
+use Rattle.link.specs.Events.{meantBy}
+use Rattle.link.proofs.events.event_by.Statement.{statement}
+use Rattle.link.proofs.events.event_by.Tie as tie
 
 returns : tie.Need-returns
 unfolding meantBy

@@ -1,7 +1,7 @@
 -- `link::given` meets its contract: the test is the one by which the definition chooses. Assumes nothing.
 use borrow.Author.Needs.{needs}
-use Rattle.link.proofs.given.Statement.{statement}
-use Rattle.link.proofs.given.Tie as tie
+use Rattle.link.proofs.events.given.Statement.{statement}
+use Rattle.link.proofs.events.given.Tie as tie
 
 returns : tie.Need-returns
 returns c = rw (c .if1 .taken)

@@ -1,0 +1,17 @@
+-- The one layout of an answer of the library: the refusal in bits 31-16, and a value below it. Document 01's answers as such numbers.
+use Prim.Native.Nat.{ℕ, _+_, _*_}
+use Rattle.dock.specs.Answers.{toldRefusal, toldValue}
+use Rattle.dock.specs.declared.Told.{Told}
+use Rattle.batch.specs.Outcome.{outcomeRefusal, outcomeCount}
+use Rattle.batch.specs.declared.Outcome.{Outcome}
+
+abbrev pub both : ℕ → ℕ → ℕ
+both refusal value = refusal * 65536 + value
+
+-- A batch: its refusal and its count.
+abbrev pub batchedAs : Outcome → ℕ
+batchedAs o = both (outcomeRefusal o) (outcomeCount o)
+
+-- A question about a state: its refusal and what it asked for.
+abbrev pub toldAs : Told → ℕ
+toldAs t = both (toldRefusal t) (toldValue t)

@@ -1,0 +1,50 @@
+-- The calls on a state that the caller holds, as the bytes of its image. Bytes that are no image are refused with 1, as an unfit state is.
+use Prim.Native.Nat.{ℕ}
+use mathlib.Core.Bool.{cond}
+use mathlib.Core.List.{List}
+use lib.Dec.{eqb}
+use lib.ListN.{length}
+use Rattle.dock.specs.Record.{freshController}
+use Rattle.dock.specs.Step.{stepOf, toldReading, toldOutputs}
+use Rattle.dock.specs.declared.Answer.{Answer}
+use Rattle.dock.specs.declared.Answer.the-variants as answer
+use Rattle.dock.specs.declared.Told.{Told}
+use Rattle.dock.specs.declared.Told.the-variants as told
+use Rattle.batch.specs.Batch.{outcomeOf, stateBy, bufferAfter}
+use Rattle.batch.specs.declared.Outcome.{Outcome}
+use Rattle.batch.specs.declared.Outcome.the-variants as outcome
+use Rattle.image.specs.Layout.{BYTES}
+use Rattle.image.specs.Save.{saved}
+use Rattle.image.specs.Load.{isImage, stateIn}
+use Rattle.link.specs.Answer.{both}
+
+-- Beginning: refusal 1 where the bytes are not as many as an image has.
+unfoldable pub begun : ℕ → ℕ
+begun bytes = cond (eqb bytes BYTES) (both 0 0) (both 1 0)
+
+unfoldable pub begunIn : List ℕ → List ℕ
+begunIn bytes = cond (eqb (length bytes) BYTES) (saved freshController) bytes
+
+-- One event: the answer, and the bytes afterwards.
+unfoldable pub answerIn : List ℕ → ℕ → Answer
+answerIn bytes w = cond (isImage bytes) (stepOf (stateIn bytes) w .answer) answer.Unfit
+
+unfoldable pub steppedIn : List ℕ → ℕ → List ℕ
+steppedIn bytes w = cond (isImage bytes) (saved (stepOf (stateIn bytes) w .controller)) bytes
+
+-- Many events: the outcome for so many words and so many record bytes, the bytes afterwards, and the records' buffer afterwards.
+unfoldable pub outcomeIn : List ℕ → ℕ → ℕ → Outcome
+outcomeIn bytes words room = cond (isImage bytes) (outcomeOf (stateIn bytes) words room) outcome.Unfit
+
+unfoldable pub batchedIn : List ℕ → List ℕ → ℕ → List ℕ
+batchedIn bytes ws room = cond (isImage bytes) (saved (stateBy (outcomeOf (stateIn bytes) (length ws) room) (stateIn bytes) ws)) bytes
+
+unfoldable pub recordsIn : List ℕ → List ℕ → List ℕ → List ℕ
+recordsIn bytes ws buffer = cond (isImage bytes) (bufferAfter (stateIn bytes) ws buffer) buffer
+
+-- The questions, which change nothing.
+unfoldable pub readingIn : List ℕ → ℕ → Told
+readingIn bytes a = cond (isImage bytes) (toldReading (stateIn bytes) a) told.Unfit
+
+unfoldable pub outputsIn : List ℕ → Told
+outputsIn bytes = cond (isImage bytes) (toldOutputs (stateIn bytes)) told.Unfit
