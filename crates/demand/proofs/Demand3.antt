@@ -58,7 +58,7 @@ pub record Agrees (ws : List ℕ) : Type 0 where
   -- .. and the answer to any next word, its refusal, reply, byte and outputs, is the plain machine's.
   pub answers : (w : ℕ) → stepOf (after freshController ws) w .answer ≡ plainAnswer ws w
 
-reached-fit : (ws : List ℕ) → fits (after freshController ws .machine) ≡ true
+pub reached-fit : (ws : List ℕ) → fits (after freshController ws .machine) ≡ true
 unfolding freshController
 reached-fit ws = run-keeps (λ m. fits m ≡ true) fits-kept freshController ws fresh-fit
 

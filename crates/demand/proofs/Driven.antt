@@ -13,7 +13,6 @@ use Rattle.machine.specs.Record.{freshMachine}
 use Rattle.machine.specs.Registers.{reading}
 use Rattle.machine.specs.Acts.{does}
 use Rattle.machine.specs.declared.Machine.{Machine}
-use Rattle.machine.specs.declared.Act.{Act}
 use Rattle.machine.specs.declared.Act.the-variants as act
 use Rattle.demand.specs.Commands.{Bus, START, STOP, BYTE, TAKE, take, register, value, writeForm, readForm, fills, begins, whole, bytesIn, goesOn, completes, decides}
 use Rattle.demand.specs.Acts.{Line, silent, with-event, onBus, hears, decided, lineAfter, actsOf, PassedOver, none, pins, tick}

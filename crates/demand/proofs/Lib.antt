@@ -6,3 +6,4 @@ pub mod Driven
 pub mod Broken
 pub mod Demand3
 pub mod Trace
+pub mod Held

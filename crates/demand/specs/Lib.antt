@@ -3,3 +3,4 @@ pub mod Acts
 pub mod Words
 pub mod Plain
 pub mod Broken
+pub mod Held

@@ -13,7 +13,6 @@ use Rattle.bus.specs.declared.Reply.the-variants.{Nothing, Ack, NoAck, Driven, 
 use Rattle.machine.specs.Registers.{reading}
 use Rattle.machine.specs.Acts.{does}
 use Rattle.machine.specs.declared.Machine.{Machine}
-use Rattle.machine.specs.declared.Act.{Act}
 use Rattle.machine.specs.declared.Act.the-variants as act
 use Rattle.dock.specs.declared.Controller.{Controller}
 use Rattle.dock.specs.declared.Deed.{Deed}
