@@ -1,30 +1,46 @@
 -- What a line does to the bench, over the definitions that `heed` meets. Assumes nothing.
 use Prim.Native.Nat.{ℕ}
+use native.Mathlib.Omega.{arith}
+use mathlib.Core.Bool.{Bool, true, false}
 use mathlib.Core.Path.{_≡_, refl}
-use mathlib.Core.List.{List, [], _∷_, map}
+use mathlib.Core.List.{List, [], _∷_, _++_, map}
+use lib.ListN.{length}
 use borrow.Author.Tests.{ne-eqb}
 use Rattle.bytes.specs.Bytes.{indexOf}
-use Rattle.script.specs.Text.{blank, leading, trimmed, first, rest, spelled, spelled64}
+use Rattle.script.specs.Text.{characters, blank, leading, trimmed, first, rest, spelled, spelled64}
 use Rattle.script.specs.Verbs.{name, verbs, verbOf}
 use Rattle.script.specs.Arguments.{digitOf, isOctet, octetOf, wordOf as wordIn, pairOf, countFrom, countOf, ticksOf}
 use Rattle.script.specs.Hands.{only, bayOf, kindOf, pulls, raises, insertLine, handLine}
-use Rattle.script.specs.Lines.{given, resetLine, takeLine, writeLine, orderLine, verbLine, plain, textLine, lineOf}
+use Rattle.script.specs.Lines.{given, resetLine, takeLine, writeLine, orderLine, verbLine, plain, argumentOf, textLine, lineOf}
 use Rattle.script.specs.declared.Order.{Order}
 use Rattle.script.specs.declared.Line.{Line}
 use Rattle.script.specs.declared.Line.the-variants.{Blank, Unknown, Misused, Mishandled, Does}
-use Rattle.script.specs.declared.Order.the-variants.{Event as One, Ticks, Write, Address}
+use Rattle.script.specs.declared.Order.the-variants.{Event as One, Ticks, Write, Address, Load}
+use Rattle.script.proofs.OneWord.{load-argument, load-line}
 use Rattle.event.specs.Words.{wordOf, strapsOf, packed, Bytes}
 use Rattle.event.specs.declared.Event.{Event}
 use Rattle.event.specs.declared.Event.the-variants.{Pins, Reset}
 use Rattle.event.specs.declared.Packed.the-variants.{Word}
 use Rattle.event.proofs.Theorems.{pack-then-unpack}
+use Rattle.bay.specs.Record.{emptyBay, resetBay, bayFit}
+use Rattle.machine.specs.Record.{bayIn, freshMachine, fits}
 use Rattle.dock.specs.Answers.{refusalOf}
 use Rattle.dock.specs.Examples.{R, N, w, pins, ticks}
+use Rattle.dock.specs.Record.{freshController}
 use Rattle.dock.specs.Run.{after}
 use Rattle.dock.specs.Step.{stepOf}
-use Rattle.bench.specs.Levels.{pulled, raised, givenBy, levelsAfter}
-use Rattle.bench.specs.Orders.{wordsOf, sentOf, afterWords, obeyed, does, heeded}
-use Rattle.bench.specs.Examples.{Example, typedWords, examples}
+use Rattle.dock.specs.declared.Controller.{Controller}
+use Rattle.image.specs.Load.{firstOver, progressVerdict, sizedVerdict, verdictOn, stateIn, loadOf}
+use Rattle.image.specs.Save.{saved}
+use Rattle.image.specs.Shape.{Shaped}
+use Rattle.image.proofs.RoundTrip.{saved-length}
+use Rattle.paste.specs.Digits.{hexOf, leadingDigits, bytesOf}
+use Rattle.paste.specs.Ranges.{firstOut}
+use Rattle.paste.specs.Findings.{isFit, findingOf, judged, unread, pastedOf}
+use Rattle.paste.proofs.Theorems.{Octets, two-each, one-word, state-back}
+use Rattle.bench.specs.Levels.{pulled, raised, givenBy, levelsAfter, bayLevels, levelsIn}
+use Rattle.bench.specs.Orders.{wordsOf, freshBench, sentOf, afterWords, loadedBy, obeyed, does, heeded}
+use Rattle.bench.specs.Examples.{Example, typedWords, examples, Loading, loadedWords, loadings}
 use Rattle.bench.specs.declared.Bench.{Bench}
 
 -- What is typed as the paper writes it sends the words of the paper's examples P1 to P12, whatever the levels are.
@@ -45,9 +61,9 @@ unfolding examples wordsOf pulled raised packed wordOf strapsOf indexOf lineOf p
 examples-hold = refl
 
 -- After `at 96` a whole write begins with that byte.
-pub at-stays : (b : Bench) (l : ℕ) → wordsOf (obeyed (Address 0x96) b .address) l (Write 0x14 0x04) ≡ 0x0000 ∷ 0x4096 ∷ 0x4014 ∷ 0x4004 ∷ 0x2000 ∷ []
+pub at-stays : (b : Bench) (t : List ℕ) (l : ℕ) → wordsOf (obeyed (Address 0x96) t b .address) l (Write 0x14 0x04) ≡ 0x0000 ∷ 0x4096 ∷ 0x4014 ∷ 0x4004 ∷ 0x2000 ∷ []
 unfolding wordsOf obeyed packed wordOf strapsOf
-at-stays b l = refl
+at-stays b t l = refl
 
 -- The dock on the bench is one that was given the words, by one single call after the other; the levels don't come into it.
 pub dock-follows : (ws : List ℕ) (b : Bench) → afterWords b ws .controller ≡ after (b .controller) ws
@@ -71,9 +87,43 @@ pub nothing-done : (l : List ℕ) (b : Bench) → ((o : Order) → lineOf l ≡ 
 unfolding heeded
 nothing-done l b no-order = go (lineOf l) refl
   where
-    go : (m : Line) → lineOf l ≡ m → does m b ≡ b
+    go : (m : Line) → lineOf l ≡ m → does m (argumentOf l) b ≡ b
     go Blank e = refl
     go Unknown e = refl
     go (Misused v) e = refl
     go (Mishandled h) e = refl
     go (Does o) e = absurd (no-order o e)
+
+-- ---- images
+
+-- A `load` of what `save` tells brings the dock back, whatever the bench held, with the levels that it has stored; the host speaks to
+-- the address that it spoke to.
+pub loads-back :
+    (s : Controller) → Shaped (s .machine) → Octets (saved s) → fits (s .machine) ≡ true → (b : Bench)
+    → heeded (characters "load " ++ hexOf (saved s)) b .bench ≡ record { controller = s; address = b .address; levels = levelsIn (s .machine) }
+unfolding heeded obeyed loadedBy isFit
+loads-back s shaped octets fit b =
+    let digits : length (hexOf (saved s)) ≡ 102 = omega (arith, two-each (saved s), saved-length s) in
+    rw (
+      load-line (hexOf (saved s)) (one-word (saved s)) (omega arith),
+      load-argument (hexOf (saved s)) (one-word (saved s)),
+      state-back s shaped octets fit,
+    )
+
+-- Any other text changes nothing, and what is gone on from is fit.
+pub damage-kept : (t : List ℕ) (b : Bench) → isFit (pastedOf t .finding) ≡ false → obeyed Load t b ≡ b
+unfolding obeyed loadedBy
+damage-kept t b damaged = rw damaged
+
+-- After a `load` the next line goes over the levels of the loaded state, or, after a damaged one, over those that were there.
+pub loadings-hold : map loadedWords loadings ≡ map (λ (e : Loading). e .words) loadings
+unfolding loadings heeded obeyed loadedBy isFit pastedOf judged findingOf unread leadingDigits bytesOf firstOut loadOf verdictOn sizedVerdict progressVerdict firstOver stateIn fits bayIn bayFit levelsIn bayLevels freshBench freshController freshMachine emptyBay wordsOf pulled raised packed wordOf strapsOf indexOf lineOf argumentOf plain textLine verbLine orderLine handLine insertLine pulls raises only bayOf kindOf given resetLine takeLine writeLine octetOf isOctet digitOf wordIn pairOf ticksOf countOf countFrom verbOf verbs name spelled spelled64 trimmed first rest leading blank
+loadings-hold = refl
+
+-- The levels that a RESET gives are those that the dock then has stored: of a bay, all sixteen.
+abbrev sixteen : List ℕ
+sixteen = 0 ∷ 1 ∷ 2 ∷ 3 ∷ 4 ∷ 5 ∷ 6 ∷ 7 ∷ 8 ∷ 9 ∷ 10 ∷ 11 ∷ 12 ∷ 13 ∷ 14 ∷ 15 ∷ []
+
+pub stored-levels : (lock : Bool) → map (λ l. bayLevels (resetBay l lock)) sixteen ≡ sixteen
+unfolding bayLevels resetBay
+stored-levels lock = refl

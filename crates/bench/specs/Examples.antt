@@ -6,7 +6,7 @@ use Rattle.script.specs.Text.{characters}
 use Rattle.script.specs.Lines.{lineOf}
 use Rattle.script.specs.declared.Line.{Line}
 use Rattle.script.specs.declared.Line.the-variants.{Blank, Unknown, Misused, Mishandled, Does}
-use Rattle.bench.specs.Orders.{wordsOf}
+use Rattle.bench.specs.Orders.{wordsOf, freshBench, heeded}
 
 pub record Example : Type 0 where
   pub levels : ℕ
@@ -82,7 +82,33 @@ plain =
     ∷ from 0xFF "word D0FF" (0xD0FF ∷ [])
     ∷ from 0xFF "at 96" []
     ∷ from 0xFF "out" []
+    ∷ from 0xFF "save" []
+    ∷ from 0xFF "load 01" []
     ∷ []
 
 unfoldable pub examples : List Example
 examples = falling ++ rising ++ stay ++ plain
+
+-- A line on a fresh bench, one after it, and the words that this sends.
+pub record Loading : Type 0 where
+  pub before : String
+  pub typed : String
+  pub words : List ℕ
+
+abbrev pub loadedWords : Loading → List ℕ
+loadedWords e = lineWords (heeded (characters (e .before)) freshBench .bench .levels) (lineOf (characters (e .typed)))
+
+abbrev loading : String → String → ℕ → Loading
+loading b t w = record { before = b; typed = t; words = w ∷ [] }
+
+-- A USB cartridge is in bay 0 of the state that is loaded; in the last three it isn't loaded: a phase of 200, a byte lost, another
+-- version.
+unfoldable pub loadings : List Loading
+loadings =
+    loading "load 01010000010001010001010001010101000101010101010101000000000000000000000A000000020200000000000000031400" "press 0" 0x809F
+    ∷ loading "load 01010000010001010001010001010101000101010101010101000000000000000000000a000000020200000000000000031400 # both cases" "press 0" 0x809F
+    ∷ loading "load 01010000010001010001010001010101000101010101010101000000000000000000000A000000020200000000000000031400" "remove 0" 0x80FF
+    ∷ loading "load 0101000001000101000101000101010100010101010101010100000000000000000000C8000000020200000000000000031400" "press 0" 0x80DF
+    ∷ loading "load 01010000010001010001010001010101000101010101010101000000000000000000000A0000000202000000000000000314" "press 0" 0x80DF
+    ∷ loading "load 02010000010001010001010001010101000101010101010101000000000000000000000A000000020200000000000000031400" "press 0" 0x80DF
+    ∷ []

@@ -1,6 +1,6 @@
 -- What a line does to the dock on the bench: the event words that it sends, one after the other.
 use Prim.Native.Nat.{ℕ, _+_, _*_, _/_}
-use mathlib.Core.Bool.{Bool, true, false}
+use mathlib.Core.Bool.{Bool, true, false, cond}
 use mathlib.Core.List.{List, [], _∷_}
 use lib.ListN.{replicate}
 use Rattle.event.specs.Words.{packed, packWord, unpacked}
@@ -8,12 +8,14 @@ use Rattle.event.specs.declared.Event.{Event}
 use Rattle.event.specs.declared.Event.the-variants.{Start, Stop, Byte, Take, Pins, Tick}
 use Rattle.dock.specs.Record.{freshController}
 use Rattle.dock.specs.Step.{stepOf}
-use Rattle.script.specs.Lines.{lineOf}
+use Rattle.paste.specs.Findings.{isFit, pastedOf}
+use Rattle.paste.specs.declared.Pasted.{Pasted}
+use Rattle.script.specs.Lines.{argumentOf, lineOf}
 use Rattle.script.specs.declared.Order.{Order}
-use Rattle.script.specs.declared.Order.the-variants.{Event as One, Pull, Raise, Ticks, Word, Write, Read, Address, Outputs, Registers, Help}
+use Rattle.script.specs.declared.Order.the-variants.{Event as One, Pull, Raise, Ticks, Word, Write, Read, Address, Outputs, Registers, Help, Save, Load}
 use Rattle.script.specs.declared.Line.{Line}
 use Rattle.script.specs.declared.Line.the-variants.{Blank, Unknown, Misused, Mishandled, Does}
-use Rattle.bench.specs.Levels.{AT-REST, pulled, raised, levelsAfter}
+use Rattle.bench.specs.Levels.{AT-REST, pulled, raised, levelsAfter, levelsIn}
 use Rattle.bench.specs.declared.Bench.{Bench}
 use Rattle.bench.specs.declared.Sent.{Sent}
 use Rattle.bench.specs.declared.Heeded.{Heeded}
@@ -46,6 +48,8 @@ wordsOf a l (Address b) = []
 wordsOf a l Outputs = []
 wordsOf a l Registers = []
 wordsOf a l Help = []
+wordsOf a l Save = []
+wordsOf a l Load = []
 
 -- A bench that nothing has been done to.
 unfoldable pub freshBench : Bench
@@ -68,27 +72,35 @@ afterWords b (w ∷ ws) = afterWords (sentOf b w .bench) ws
 abbrev pub sending : Order → Bench → Bench
 sending o b = afterWords b (wordsOf (b .address) (b .levels) o)
 
--- An order sends its words; `at` changes the address byte.
-unfoldable pub obeyed : Order → Bench → Bench
-obeyed (One e) b = sending (One e) b
-obeyed (Pull inputs) b = sending (Pull inputs) b
-obeyed (Raise inputs) b = sending (Raise inputs) b
-obeyed (Ticks n) b = sending (Ticks n) b
-obeyed (Word w) b = sending (Word w) b
-obeyed (Write r v) b = sending (Write r v) b
-obeyed (Read r) b = sending (Read r) b
-obeyed (Address a) b = record { controller = b .controller; address = a; levels = b .levels }
-obeyed Outputs b = b
-obeyed Registers b = b
-obeyed Help b = b
+-- The image of a fit state: the dock goes on from it, with the levels that it has stored; what the host speaks to stays. Any other
+-- text changes nothing.
+unfoldable pub loadedBy : Pasted → Bench → Bench
+loadedBy p b =
+    cond (isFit (p .finding)) (record { controller = p .controller; address = b .address; levels = levelsIn (p .controller .machine) }) b
+
+-- An order sends its words; `at` changes the address byte, and `load` the dock, by the text beside it.
+unfoldable pub obeyed : Order → List ℕ → Bench → Bench
+obeyed (One e) t b = sending (One e) b
+obeyed (Pull inputs) t b = sending (Pull inputs) b
+obeyed (Raise inputs) t b = sending (Raise inputs) b
+obeyed (Ticks n) t b = sending (Ticks n) b
+obeyed (Word w) t b = sending (Word w) b
+obeyed (Write r v) t b = sending (Write r v) b
+obeyed (Read r) t b = sending (Read r) b
+obeyed (Address a) t b = record { controller = b .controller; address = a; levels = b .levels }
+obeyed Outputs t b = b
+obeyed Registers t b = b
+obeyed Help t b = b
+obeyed Save t b = b
+obeyed Load t b = loadedBy (pastedOf t) b
 
 -- A line that isn't understood changes nothing.
-abbrev pub does : Line → Bench → Bench
-does Blank b = b
-does Unknown b = b
-does (Misused v) b = b
-does (Mishandled h) b = b
-does (Does o) b = obeyed o b
+abbrev pub does : Line → List ℕ → Bench → Bench
+does Blank t b = b
+does Unknown t b = b
+does (Misused v) t b = b
+does (Mishandled h) t b = b
+does (Does o) t b = obeyed o t b
 
 abbrev pub understood : Line → Bool
 understood Blank = true
@@ -98,4 +110,4 @@ understood (Mishandled h) = false
 understood (Does o) = true
 
 unfoldable pub heeded : List ℕ → Bench → Heeded
-heeded l b = record { bench = does (lineOf l) b; understood = understood (lineOf l) }
+heeded l b = record { bench = does (lineOf l) (argumentOf l) b; understood = understood (lineOf l) }

@@ -33,6 +33,8 @@ fn say_use(verb: Verb) {
         Verb::Out => say(b"out             tells the bays and the interrupt\n"),
         Verb::Regs => say(b"regs            tells every register\n"),
         Verb::Help => say(b"help            tells these lines\n"),
+        Verb::Save => say(b"save            tells the dock's state as an image, in hex\n"),
+        Verb::Load => say(b"load 0101..     goes on from an image, as `save` tells it\n"),
     }
 }
 
@@ -79,6 +81,8 @@ pub(crate) fn tell_help() {
     say_help(Verb::At);
     say_help(Verb::Out);
     say_help(Verb::Regs);
+    say_help(Verb::Save);
+    say_help(Verb::Load);
     say_help(Verb::Help);
 }
 

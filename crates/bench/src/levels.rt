@@ -1,8 +1,11 @@
 // The levels at the dock's inputs, as they were last given to it.
+ghost use Prim.Native.Nat.{_≤_};
 ghost use mathlib.Core.Path.{_≡_};
 ghost use Rattle.event.specs.Words.{unpacked};
-ghost use Rattle.bench.specs.Levels.{pulled, raised, givenBy, levelsAfter};
+ghost use Rattle.bench.specs.Levels.{pulled, raised, givenBy, levelsAfter, weighed, bayLevels, levelsIn};
+use bay::Bay;
 use dock::Answer;
+use dock::Controller;
 use event::Event;
 use event::Unpacked;
 
@@ -53,4 +56,31 @@ pub(crate) fn levels_after(answer: Answer, word: u16, levels: u8) -> u8
         return levels;
     };
     given_by(event, levels)
+}
+
+// A level as its weight, or nothing.
+fn weighed(level: bool, weight: u8) -> u8
+    ensures { λ r. ⌜ r ≡ weighed level weight ⌝ }
+    ensures { λ r. ⌜ r ≤ weight ⌝ }
+{
+    if level { weight } else { 0 }
+}
+
+// The levels that a bay has stored, in its four bits.
+fn bay_levels(bay: Bay) -> u8
+    ensures { λ r. ⌜ r ≡ bayLevels bay ⌝ }
+    ensures { λ r. ⌜ r ≤ 15 ⌝ }
+{
+    weighed(bay.levels[Bay::N1394], 8)
+        + weighed(bay.levels[Bay::NUSB], 4)
+        + weighed(bay.levels[Bay::NREMREQ], 2)
+        + weighed(bay.n_sl, 1)
+}
+
+// The levels that a dock has stored: those of its last samples.
+pub(crate) fn levels_in(controller: Controller) -> u8
+    ensures { λ r. ⌜ r ≡ levelsIn (controller .machine) ⌝ }
+{
+    let bays = controller.machine.bays;
+    bay_levels(bays[0]) * 16 + bay_levels(bays[1])
 }

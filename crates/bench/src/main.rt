@@ -3,6 +3,7 @@
 mod bays;
 mod events;
 mod help;
+mod images;
 mod input;
 mod levels;
 mod orders;
@@ -107,7 +108,7 @@ fn heed(bench: Bench, number: u64, line: &[u8]) -> Heeded
             }
         }
         Line::Does(order) => Heeded {
-            bench: bench.obey(order),
+            bench: bench.obey(order, script::argument(line)),
             understood: true,
         },
     }

@@ -15,6 +15,8 @@ use crate::events::tell_address;
 use crate::events::tell_answer;
 use crate::events::tell_word;
 use crate::help::tell_help;
+use crate::images::load;
+use crate::images::tell_image;
 use crate::levels::AT_REST;
 use crate::levels::levels_after;
 use crate::levels::pulled;
@@ -176,8 +178,9 @@ impl Bench {
         }
     }
 
-    pub(crate) fn obey(self, order: Order) -> Bench
-        ensures { λ r. ⌜ r ≡ obeyed order self ⌝ }
+    // An order, with the word beside its verb.
+    pub(crate) fn obey(self, order: Order, text: &[u8]) -> Bench
+        ensures { λ r. ⌜ r ≡ obeyed order (now (text .entry)) self ⌝ }
     {
         let controller = self.controller;
         let levels = self.levels;
@@ -209,6 +212,11 @@ impl Bench {
                 tell_help();
                 self
             }
+            Order::Save => {
+                tell_image(controller);
+                self
+            }
+            Order::Load => load(self, text),
         }
     }
 }

@@ -7,22 +7,28 @@ use mathlib.Core.List.{List, [], _∷_, map}
 use lib.Dec.{ltb, leb}
 use lib.ListN.{take, drop}
 use borrow.Author.Tests.{ltb-true, ltb-false, leb-false, le-leb, lt-leb}
-use denote.Ref.{RefT}
+use denote.Ref.{RefT, now}
 use Rattle.bytes.specs.Bytes.{indexOf}
 use Rattle.hex.specs.Digit.{digitFor}
 use Rattle.script.specs.Text.{characters, blank, leading, trimmed, first, rest, spelled, spelled64}
 use Rattle.script.specs.Verbs.{name, verbs, verbOf}
 use Rattle.script.specs.Arguments.{digitOf, isOctet, octetOf, wordOf, pairOf, countFrom, countOf, ticksOf}
 use Rattle.script.specs.Hands.{only, bayOf, kindOf, pulls, raises, insertLine, handLine}
-use Rattle.script.specs.Lines.{given, resetLine, takeLine, writeLine, orderLine, verbLine, plain, textLine, lineOf}
-use Rattle.script.specs.Examples.{Example, examples}
+use Rattle.script.specs.Lines.{given, resetLine, takeLine, writeLine, orderLine, verbLine, plain, argumentOf, textLine, lineOf}
+use Rattle.script.specs.Examples.{Example, examples, Argument, arguments}
 use Rattle.script.specs.declared.Line.{Line}
+use Rattle.script.proofs.arguments.digit.Reads as digit-reads
+use Rattle.script.proofs.lines.argument.Reads as argument-reads
 use Rattle.script.proofs.lines.meaning.Reads as meaning-reads
 
 -- Each of the examples means what it is said to mean.
 pub examples-hold : map (λ (e : Example). lineOf (characters (e .typed))) examples ≡ map (λ (e : Example). e .means) examples
 unfolding examples indexOf lineOf plain textLine verbLine orderLine handLine insertLine pulls raises only bayOf kindOf given resetLine takeLine writeLine octetOf isOctet digitOf wordOf pairOf ticksOf countOf countFrom verbOf verbs name spelled spelled64 trimmed first rest leading blank
 examples-hold = refl
+
+pub arguments-hold : map (λ (a : Argument). argumentOf (characters (a .typed))) arguments ≡ map (λ (a : Argument). characters (a .word)) arguments
+unfolding arguments argumentOf indexOf plain trimmed first rest leading blank
+arguments-hold = refl
 
 -- ---- a verb is known by its number
 
@@ -91,3 +97,11 @@ digit-back n = go (ltb (n % 16) 10) refl
 pub meaning-determined :
     (κs : _) (line : RefT (List ℕ)) (r s : Line) → meaning-reads.Post κs (line, tt) r (line, tt) → meaning-reads.Post κs (line, tt) s (line, tt) → r ≡ s
 meaning-determined κs line r s p q = p ∙ sym q
+
+pub digit-determined : (κs : _) (c : ℕ) (r s : ℕ) → digit-reads.Post κs (c, tt) r (c, tt) → digit-reads.Post κs (c, tt) s (c, tt) → r ≡ s
+digit-determined κs c r s p q = p .0 ∙ sym (q .0)
+
+-- Of a part of the line, what stands in it.
+pub argument-determined :
+    (κs : _) (line r s : RefT (List ℕ)) → argument-reads.Post κs (line, tt) r (line, tt) → argument-reads.Post κs (line, tt) s (line, tt) → now r ≡ now s
+argument-determined κs line r s p q = p ∙ sym q

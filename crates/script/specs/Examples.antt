@@ -16,6 +16,24 @@ pub record Example : Type 0 where
 abbrev line : String → Line → Example
 line t l = record { typed = t; means = l }
 
+-- The word after a line's first.
+pub record Argument : Type 0 where
+  pub typed : String
+  pub word : String
+
+abbrev argument : String → String → Argument
+argument t w = record { typed = t; word = w }
+
+unfoldable pub arguments : List Argument
+arguments =
+    argument "load 01aF" "01aF"
+    ∷ argument "\tload  01aF  # 02" "01aF"
+    ∷ argument "load 01#aF" "01"
+    ∷ argument "load" ""
+    ∷ argument "load # 01aF" ""
+    ∷ argument "" ""
+    ∷ []
+
 unfoldable pub examples : List Example
 examples =
     line "reset C0BF" (Does (order.Event (event.Reset 0 0xBF)))
@@ -51,6 +69,9 @@ examples =
     ∷ line "out" (Does order.Outputs)
     ∷ line "regs" (Does order.Registers)
     ∷ line "help" (Does order.Help)
+    ∷ line "save" (Does order.Save)
+    ∷ line "load 01" (Does order.Load)
+    ∷ line "load zz  # told by the bench" (Does order.Load)
     ∷ line "  w\t1C=8c  # a comment" (Does (order.Write 0x1C 0x8C))
     ∷ line "stop\r" (Does (order.Event event.Stop))
     ∷ line "" Blank
@@ -75,4 +96,8 @@ examples =
     ∷ line "press" (Mishandled hand.Press)
     ∷ line "press 0 1" (Mishandled hand.Press)
     ∷ line "out 1" (Misused verb.Out)
+    ∷ line "save 01" (Misused verb.Save)
+    ∷ line "load" (Misused verb.Load)
+    ∷ line "load # 01" (Misused verb.Load)
+    ∷ line "load 01 00" (Misused verb.Load)
     ∷ []

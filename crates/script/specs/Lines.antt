@@ -1,7 +1,7 @@
 -- What a line means: a verb, what it takes, and a comment after `#`.
 use Prim.Native.Nat.{ℕ, _/_, _%_}
 use Prim.Native.Char.{code}
-use mathlib.Core.Bool.{Bool, cond, _&&_, _||_}
+use mathlib.Core.Bool.{Bool, cond, not, _&&_, _||_}
 use mathlib.Core.List.{List}
 use lib.ListN.{length, take}
 use lib.Dec.{eqb, leb}
@@ -12,9 +12,9 @@ use Rattle.script.specs.Verbs.{name, verbOf}
 use Rattle.script.specs.Arguments.{octetOf, wordOf, pairOf, ticksOf}
 use Rattle.script.specs.Hands.{handLine}
 use Rattle.script.specs.declared.Verb.{Verb}
-use Rattle.script.specs.declared.Verb.the-variants.{Reset, Pins, Tick, Timeout, Start, Stop, Byte, Take, Word, W, R, At, Out, Regs, Help}
+use Rattle.script.specs.declared.Verb.the-variants.{Reset, Pins, Tick, Timeout, Start, Stop, Byte, Take, Word, W, R, At, Out, Regs, Help, Save, Load}
 use Rattle.script.specs.declared.Order.{Order}
-use Rattle.script.specs.declared.Order.the-variants.{Event, Ticks, Word as AWord, Write, Read, Address, Outputs, Registers, Help as Verbs}
+use Rattle.script.specs.declared.Order.the-variants.{Event, Ticks, Word as AWord, Write, Read, Address, Outputs, Registers, Help as Verbs, Save as Saving, Load as Loading}
 use Rattle.script.specs.declared.Line.{Line}
 use Rattle.script.specs.declared.Line.the-variants.{Blank, Unknown, Misused, Does}
 use Rattle.script.specs.declared.Named.{Named}
@@ -63,6 +63,8 @@ orderLine At t = octetLine At t Address
 orderLine Out t = aloneLine Out t Outputs
 orderLine Regs t = aloneLine Regs t Registers
 orderLine Help t = aloneLine Help t Verbs
+orderLine Save t = aloneLine Save t Saving
+orderLine Load t = given Load (not (eqb (length t) 0)) Loading
 
 -- No verb takes more than one word.
 unfoldable pub verbLine : Verb → List ℕ → Line
@@ -77,6 +79,10 @@ namedLine (AtBay h) t = handLine h t
 -- A comment begins with `#` and is no part of what the line says.
 unfoldable pub plain : List ℕ → List ℕ
 plain l = take (indexOf (code "#") l) l
+
+-- The word after the first of a line, empty where there is none: the digits of a `load`.
+unfoldable pub argumentOf : List ℕ → List ℕ
+argumentOf l = first (rest (plain l))
 
 unfoldable pub textLine : List ℕ → Line
 textLine t = cond (eqb (length (first t)) 0) Blank (namedLine (verbOf (spelled64 (first t))) (rest t))

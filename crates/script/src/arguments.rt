@@ -10,7 +10,7 @@ use crate::Pair;
 const MOST: u32 = 65535;
 
 // The value of a hex digit, in either case; 16 where it is none.
-fn digit(c: u8) -> u8
+pub fn digit(c: u8) -> u8
     ensures { λ r. ⌜ r ≡ digitOf c ⌝ }
     ensures { λ r. ⌜ r ≤ 16 ⌝ }
 {

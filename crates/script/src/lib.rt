@@ -6,7 +6,9 @@ mod lines;
 mod text;
 mod verbs;
 
+pub use arguments::digit;
 use event::Event;
+pub use lines::argument;
 pub use lines::meaning;
 
 // The word that a line begins with.
@@ -26,6 +28,8 @@ pub enum Verb {
     Out,
     Regs,
     Help,
+    Save,
+    Load,
 }
 
 // The word that a line about a bay begins with: what a person does there.
@@ -62,6 +66,10 @@ pub enum Order {
     Registers,
     // Tell what can be asked for.
     Help,
+    // Tell the dock's state as an image in hex.
+    Save,
+    // Go on from the image whose digits are the line's `argument`.
+    Load,
 }
 
 // What a line means.

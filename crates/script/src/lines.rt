@@ -1,6 +1,6 @@
 // What a line means: a verb, what it takes, and a comment after `#`.
 ghost use mathlib.Core.Path.{_≡_};
-ghost use Rattle.script.specs.Lines.{given, resetLine, takeLine, writeLine, orderLine, verbLine, plain, lineOf};
+ghost use Rattle.script.specs.Lines.{given, resetLine, takeLine, writeLine, orderLine, verbLine, plain, argumentOf, lineOf};
 use crate::Line;
 use crate::Named;
 use crate::Order;
@@ -98,6 +98,8 @@ fn order(verb: Verb, text: &[u8]) -> Line
         Verb::Out => given(verb, alone, Order::Outputs),
         Verb::Regs => given(verb, alone, Order::Registers),
         Verb::Help => given(verb, alone, Order::Help),
+        Verb::Save => given(verb, alone, Order::Save),
+        Verb::Load => given(verb, !alone, Order::Load),
     }
 }
 
@@ -118,6 +120,13 @@ fn with_verb(verb: Verb, text: &[u8]) -> Line
         return Line::Misused(verb);
     }
     order(verb, first_word(text))
+}
+
+// The word after the first of a line, empty where there is none.
+pub fn argument(line: &[u8]) -> &[u8]
+    ensures { λ r. ⌜ now r ≡ argumentOf (now (line .entry)) ⌝ }
+{
+    first_word(after_first(before_comment(line)))
 }
 
 // What a line means.

@@ -36,6 +36,10 @@ const REGS: u64 = 0x73_67_65_72;
 
 const HELP: u64 = 0x70_6C_65_68;
 
+const SAVE: u64 = 0x65_76_61_73;
+
+const LOAD: u64 = 0x64_61_6F_6C;
+
 const INSERT: u64 = 0x74_72_65_73_6E_69;
 
 const REMOVE: u64 = 0x65_76_6F_6D_65_72;
@@ -79,6 +83,8 @@ pub(crate) fn verb(name: u64) -> Named
         OUT => Named::This(Verb::Out),
         REGS => Named::This(Verb::Regs),
         HELP => Named::This(Verb::Help),
+        SAVE => Named::This(Verb::Save),
+        LOAD => Named::This(Verb::Load),
         INSERT => Named::AtBay(Hand::Insert),
         REMOVE => Named::AtBay(Hand::Remove),
         PRESS => Named::AtBay(Hand::Press),

@@ -22,7 +22,7 @@ returns-4 c = rw (← c .before .before .before .before .meaning .ensures, c .be
 
 returns-5 : tie.Need-returns-5
 unfolding heeded
-returns-5 c = rw (← c .before .before .before .before .meaning .ensures, c .before .before .order .given .1, c .obey .ensures)
+returns-5 c = rw (← c .before .before .before .before .before .meaning .ensures, c .before .before .before .order .given .1, ← c .before .argument .ensures, c .obey .ensures)
 
 pub heed-spec : {M : Type 1} → statement M
 heed-spec =
@@ -37,6 +37,7 @@ heed-spec =
     (λ c. search needs)
     (λ c κs. search needs)
     (λ c. search needs)
+    (λ c κs. search needs)
     (λ c κs. search needs)
     returns
     returns-2

@@ -49,6 +49,14 @@ returns-11 : tie.Need-returns-11
 unfolding obeyed wordsOf afterWords
 returns-11 c = rw (c .before .enum-told3 .given .1)
 
+returns-12 : tie.Need-returns-12
+unfolding obeyed wordsOf afterWords
+returns-12 c = rw (c .before .enum-told4 .given .1)
+
+returns-13 : tie.Need-returns-13
+unfolding obeyed wordsOf afterWords
+returns-13 c = rw (c .before .enum-told5 .given .1, c .load .ensures)
+
 pub obey-spec : {M : Type 1} → statement M
 obey-spec =
     tie.close
@@ -81,6 +89,10 @@ obey-spec =
     (λ c κs. search needs)
     (λ c. search needs)
     (λ c κs. search needs)
+    (λ c. search needs)
+    (λ c κs. search needs)
+    (λ c. search needs)
+    (λ c κs. search needs)
     returns
     returns-2
     returns-3
@@ -91,4 +103,6 @@ obey-spec =
     returns-8
     returns-9
     returns-10
-    returns-11)
+    returns-11
+    returns-12
+    returns-13)

@@ -65,6 +65,14 @@ returns-15 : tie.Need-returns-15
 unfolding orderLine
 returns-15 c = c .given12 .ensures ∙ rw (c .before .enum-told15 .given .1)
 
+returns-16 : tie.Need-returns-16
+unfolding orderLine
+returns-16 c = c .given13 .ensures ∙ rw (c .before .enum-told16 .given .1)
+
+returns-17 : tie.Need-returns-17
+unfolding orderLine
+returns-17 c = c .given14 .ensures ∙ rw (c .before .enum-told17 .given .1)
+
 pub order-spec : {M : Type 1} → statement M
 order-spec =
     tie.close
@@ -102,6 +110,10 @@ order-spec =
     (λ c κs. search needs)
     (λ c. search needs)
     (λ c κs. search needs)
+    (λ c. search needs)
+    (λ c κs. search needs)
+    (λ c. search needs)
+    (λ c κs. search needs)
     returns
     returns-2
     returns-3
@@ -116,4 +128,6 @@ order-spec =
     returns-12
     returns-13
     returns-14
-    returns-15)
+    returns-15
+    returns-16
+    returns-17)

@@ -1,0 +1,3 @@
+pub mod Passing
+pub mod Fit
+pub mod Theorems
