@@ -2,10 +2,12 @@
  *
  * The dock starts with a USB device in bay 0. The host enables the bay, locked and powered, and then clears the
  * "device status changed" bit; between the register byte and the data byte of that write the button goes down and
- * settles. The program prints every record in words, and what the status register reads at the end. */
+ * settles. The program holds the dock's state, gives it one event at a time, prints every record in words, and at the
+ * end what the status register reads. */
 #include "dock.h"
 
 #include <stdio.h>
+#include <stdlib.h>
 
 enum {
     OWN_WRITE = 0x90,
@@ -17,65 +19,22 @@ enum {
     CLEAR_STATUS_CHANGED = 0x04,
     USB_IN_BAY_0 = 0xBF,
     BUTTON_DOWN = 0x9F,
-    SETTLING_TICKS = 10,
-    ROOM = 64
+    SETTLING_TICKS = 10
 };
 
-struct history {
-    uint16_t words[ROOM];
-    size_t length;
-    int refused;
-};
+static uint8_t state[DOCK_STATE_BYTES];
 
-static void add(struct history *history, uint8_t kind, uint8_t first, uint8_t second) {
-    uint32_t answer = dock_pack(kind, first, second);
-    if (dock_refusal(answer) != DOCK_ACCEPTED || history->length == ROOM) {
-        history->refused = 1;
-        return;
-    }
-    history->words[history->length++] = dock_value(answer);
-}
-
-static void add_byte(struct history *history, uint8_t value) { add(history, DOCK_BYTE, value, 0); }
-
-static void press_button(struct history *history) {
-    add(history, DOCK_PINS, BUTTON_DOWN, 0);
-    for (int tick = 0; tick < SETTLING_TICKS; tick++) {
-        add(history, DOCK_TICK, 0, 0);
-    }
-}
-
-static void write_enable(struct history *history) {
-    add(history, DOCK_START, 0, 0);
-    add_byte(history, OWN_WRITE);
-    add_byte(history, BAY_0_CONTROL);
-    add_byte(history, ENABLE);
-    add(history, DOCK_STOP, 0, 0);
-}
-
-static void write_with_a_press_inside(struct history *history) {
-    add(history, DOCK_START, 0, 0);
-    add_byte(history, OWN_WRITE);
-    add_byte(history, BAY_0_STATUS);
-    press_button(history);
-    add_byte(history, CLEAR_STATUS_CHANGED);
-    add(history, DOCK_STOP, 0, 0);
-}
-
-static void read_status(struct history *history) {
-    add(history, DOCK_START, 0, 0);
-    add_byte(history, OWN_WRITE);
-    add_byte(history, BAY_0_STATUS);
-    add(history, DOCK_START, 0, 0);
-    add_byte(history, OWN_READ);
-    add(history, DOCK_TAKE, 0, 0);
+static void give_up(const char *why) {
+    fprintf(stderr, "%s\n", why);
+    exit(1);
 }
 
 /* The numbers that an event has beside its kind, as text. */
-static void tell_data(uint32_t event, char *text, size_t size) {
-    unsigned first = dock_event_first(event);
-    unsigned second = dock_event_second(event);
-    switch (dock_event_kind(event)) {
+static void tell_data(uint16_t word, char *text, size_t size) {
+    uint32_t unpacked = dock_unpack(word);
+    unsigned first = dock_first(unpacked);
+    unsigned second = dock_second(unpacked);
+    switch (dock_kind(word)) {
     case DOCK_BYTE:
     case DOCK_PINS: snprintf(text, size, " %02Xh", first); break;
     case DOCK_TAKE: snprintf(text, size, "%s", first == 1 ? ", ACK" : ", NACK"); break;
@@ -86,11 +45,10 @@ static void tell_data(uint32_t event, char *text, size_t size) {
 
 static void print_event(uint16_t word) {
     static const char *const names[8] = {"START", "STOP", "BYTE", "TAKE", "PINS", "TICK", "RESET", "TIMEOUT"};
-    uint32_t event = dock_unpack(word);
     char data[16];
     char text[32];
-    tell_data(event, data, sizeof data);
-    snprintf(text, sizeof text, "%s%s", names[dock_event_kind(event) & 7u], data);
+    tell_data(word, data, sizeof data);
+    snprintf(text, sizeof text, "%s%s", names[dock_kind(word)], data);
     printf("%04X  %-12s", (unsigned)word, text);
 }
 
@@ -107,7 +65,7 @@ static void print_outputs(uint16_t outputs) {
     puts(outputs == 0 ? "all off" : "");
 }
 
-static void print_record(const uint8_t *record) {
+static void print_record(uint32_t record) {
     static const char *const replies[8] = {"-",       "acknowledged", "not acknowledged", "drives", "drives nothing",
                                            "reply 5", "reply 6",      "reply 7"};
     char reply[24];
@@ -135,23 +93,71 @@ static void print_status(uint8_t status) {
     puts("");
 }
 
-int main(void) {
-    struct history history = {{0}, 0, 0};
-    add(&history, DOCK_RESET, 0, USB_IN_BAY_0);
-    write_enable(&history);
-    write_with_a_press_inside(&history);
-    read_status(&history);
-
-    uint8_t records[DOCK_RECORD_BYTES * ROOM];
-    uint32_t replay = dock_replay(history.words, history.length, records, sizeof records);
-    uint32_t reading = dock_reading(history.words, history.length, BAY_0_STATUS);
-    if (history.refused || dock_refusal(replay) != DOCK_ACCEPTED || dock_refusal(reading) != DOCK_ACCEPTED) {
-        fputs("the library refused a call that it should take\n", stderr);
-        return 1;
+/* One event: packed, stepped and told. */
+static void event(uint8_t kind, uint8_t first, uint8_t second) {
+    uint32_t packed = dock_pack(kind, first, second);
+    uint32_t record;
+    if (dock_refusal(packed) != DOCK_ACCEPTED) {
+        give_up("no event has these numbers");
     }
-    for (size_t place = 0; place < dock_value(replay); place++) {
-        print_event(history.words[place]);
-        print_record(records + DOCK_RECORD_BYTES * place);
+    record = dock_step(state, sizeof state, dock_value(packed));
+    if (dock_record_refusal(record) != DOCK_ACCEPTED) {
+        give_up("the library refused an event that it should take");
+    }
+    print_event(dock_value(packed));
+    print_record(record);
+}
+
+static void byte(uint8_t value) { event(DOCK_BYTE, value, 0); }
+
+static void press_button(void) {
+    event(DOCK_PINS, BUTTON_DOWN, 0);
+    for (int tick = 0; tick < SETTLING_TICKS; tick++) {
+        event(DOCK_TICK, 0, 0);
+    }
+}
+
+static void write_enable(void) {
+    event(DOCK_START, 0, 0);
+    byte(OWN_WRITE);
+    byte(BAY_0_CONTROL);
+    byte(ENABLE);
+    event(DOCK_STOP, 0, 0);
+}
+
+static void write_with_a_press_inside(void) {
+    event(DOCK_START, 0, 0);
+    byte(OWN_WRITE);
+    byte(BAY_0_STATUS);
+    press_button();
+    byte(CLEAR_STATUS_CHANGED);
+    event(DOCK_STOP, 0, 0);
+}
+
+static void read_status(void) {
+    event(DOCK_START, 0, 0);
+    byte(OWN_WRITE);
+    byte(BAY_0_STATUS);
+    event(DOCK_START, 0, 0);
+    byte(OWN_READ);
+    event(DOCK_TAKE, 0, 0);
+}
+
+int main(void) {
+    uint32_t reading;
+    if (!dock_fits_header()) {
+        give_up("the library is of another version than the header");
+    }
+    if (dock_refusal(dock_begin(state, sizeof state)) != DOCK_ACCEPTED) {
+        give_up("the library has a state of another length");
+    }
+    event(DOCK_RESET, 0, USB_IN_BAY_0);
+    write_enable();
+    write_with_a_press_inside();
+    read_status();
+    reading = dock_reading(state, sizeof state, BAY_0_STATUS);
+    if (dock_refusal(reading) != DOCK_ACCEPTED) {
+        give_up("the library refused a question that it should answer");
     }
     print_status((uint8_t)dock_value(reading));
     return 0;

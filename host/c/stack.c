@@ -19,14 +19,23 @@ static const uint16_t COMMANDS[] = {0x0000, 0x4090, 0x4014, 0x40AD, 0x2000, 0x00
                                     0x4090, 0x4010, 0x0000, 0x4091, 0x6000};
 
 static unsigned char stack[STACK_BYTES];
+static uint8_t state[DOCK_STATE_BYTES];
 static uint16_t words[WORDS];
 static uint8_t records[WORDS * DOCK_RECORD_BYTES];
 static volatile uint32_t answer;
 
 static void nothing(void) { answer = 0; }
+static void version(void) { answer = dock_version(); }
+static void begin(void) { answer = dock_begin(state, sizeof state); }
+static void batch(void) { answer = dock_batch(state, sizeof state, words, WORDS, records, sizeof records); }
 static void replay(void) { answer = dock_replay(words, WORDS, records, sizeof records); }
-static void reading(void) { answer = dock_reading(words, WORDS, 0x10); }
-static void outputs(void) { answer = dock_outputs(words, WORDS); }
+static void reading(void) { answer = dock_reading(state, sizeof state, 0x10); }
+static void outputs(void) { answer = dock_outputs(state, sizeof state); }
+/* The deepest of them is what counts. */
+static void steps(void) {
+    for (size_t i = 0; i < WORDS; i++)
+        answer = dock_step(state, sizeof state, words[i]);
+}
 static void pack(void) { answer = dock_pack(DOCK_TICK, 0, 0); }
 static void unpack(void) { answer = dock_unpack(TICK); }
 
@@ -57,15 +66,26 @@ static void report(const char *name, void (*call)(void)) {
     printf("    %5zu  %s\n", depth_of(call) - depth_of(nothing), name);
 }
 
+/* The calls that take words, from a fresh state. */
+static void report_words(const char *what) {
+    printf("  %s\n", what);
+    report("dock_step", steps);
+    report("dock_batch", batch);
+    report("dock_replay", replay);
+}
+
 int main(void) {
     printf("deepest byte of the stack that a call writes to:\n");
+    report("dock_begin", begin);
     fill_words(&TICK, 1);
-    report("dock_replay, ticks", replay);
+    report_words("ticks");
     fill_words(COMMANDS, sizeof COMMANDS / sizeof COMMANDS[0]);
-    report("dock_replay, bus events", replay);
+    report_words("bus events");
+    printf("  questions, and the rest\n");
     report("dock_reading", reading);
     report("dock_outputs", outputs);
     report("dock_pack", pack);
     report("dock_unpack", unpack);
+    report("dock_version", version);
     return 0;
 }

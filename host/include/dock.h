@@ -1,17 +1,33 @@
-/* The proved controller of a two-bay cartridge dock, for C99 or C++11 and newer.
+/* The proved controller of a two-bay cartridge dock, version 2.0, for C99 or C++11 and newer.
  *
- * The library keeps nothing between calls: each call that takes words begins with a fresh controller and takes the
- * whole history, at most DOCK_MOST_WORDS event words. "Document 01" is the paper that gives the rules.
+ * A program holds the controller's state as DOCK_STATE_BYTES bytes and gives it one event at a time:
  *
- * A list is passed as a pointer and the number of its elements (not bytes). Any word, any number and any two lengths
- * are taken: a call returns, and what it cannot do it refuses with a number and writes nothing. A word that is refused
- * has a record that says so, and is no fault of the call.
+ *     uint8_t state[DOCK_STATE_BYTES], flash[DOCK_STATE_BYTES];
+ *     uint32_t reset = dock_pack(DOCK_RESET, 2, 0xFF);      // straps and input levels
+ *     dock_begin(state, sizeof state);                      // a fresh state, which waits for a RESET
+ *     uint32_t record = dock_step(state, sizeof state, dock_value(reset));
+ *     uint16_t pins = dock_record_outputs(record);          // what to drive after the event
+ *     memcpy(flash, state, sizeof state);                   // to save it is to copy it
+ *     memcpy(state, flash, sizeof state);                   // to go on from there is to hand it in again
+ *     uint32_t outputs = dock_outputs(state, sizeof state); // what to drive, asked without an event
+ *     if (dock_refusal(outputs) != DOCK_ACCEPTED)
+ *         dock_begin(state, sizeof state);                  // the bytes came back damaged
+ *
+ * Any bytes at all may come back as a state: those that are no image of a fit state are refused with 1. The library
+ * keeps nothing between calls, takes no memory but some of the stack, and calls nothing outside itself.
+ *
+ * A list is a pointer and the number of its elements (not bytes). Any bytes, words, numbers and lengths are taken: a
+ * call returns, and what it cannot do it refuses with a number, and leaves the state and every list as they came.
  *
  * What a call cannot see stays the caller's duty:
- * - A pointer is not NULL, also where its list is empty, and is aligned for its elements.
- * - That many elements are there: words to read, record bytes to write.
- * - The two lists of dock_replay do not overlap, and nobody else writes to a list, or reads the records, during the
- *   call. Calls on different lists may run at the same time.
+ * - A pointer leads to as many elements as the call is told, aligned for their type, and writable where it is not
+ *   const. An empty list may come with NULL. So may a state of any length but DOCK_STATE_BYTES: it is refused unread.
+ * - State, words and records of one call do not overlap.
+ * - During the call nobody else (a thread, an interrupt) writes to them, nor reads what the call may write. Calls on
+ *   different states may run at the same time.
+ * - The events are given in the order in which they happened, a TICK every ten milliseconds.
+ * - Bytes that are the image of a fit state are taken for that state. Whether they are the bytes that were saved, only
+ *   the caller can know, by a check sum for example.
  */
 #ifndef DOCK_H
 #define DOCK_H
@@ -23,11 +39,27 @@
 extern "C" {
 #endif
 
-#define DOCK_MOST_WORDS 16384u
-#define DOCK_RECORD_BYTES 4u
+/* The version of the library that this header belongs to: first number in bits 15-8, second in bits 7-0. The first
+ * rises where a program that was built on an older header would misread or misuse a call, the second where it would
+ * not.
+ *
+ * Before version 2, dock_reading and dock_outputs took words where they take a state now, and dock_unpack had a layout
+ * of its own. A program that was built on such a header must be built again. */
+#define DOCK_VERSION 0x0200u
 
-/* The kinds of events, and the two numbers that dock_pack takes and dock_unpack gives for each. */
-enum dock_kind {
+/* Bits of words and answers, numbers of events, replies and refusals that this header does not name are 0 or not given
+ * in this version. A later one may use them (RESET's word is to grow by a bit), and then has a higher first number. A
+ * program that begins by asking dock_fits_header() misreads nothing silently. */
+uint32_t dock_version(void); /* value: as DOCK_VERSION */
+static inline int dock_fits_header(void) { return dock_version() >> 8 == DOCK_VERSION >> 8; }
+
+#define DOCK_STATE_BYTES 51u
+#define DOCK_RECORD_BYTES 4u
+#define DOCK_MOST_WORDS 16384u
+
+/* The kinds of events, and the two numbers that dock_pack takes and dock_unpack gives for each. A number that is not
+ * named is 0. */
+enum dock_kind_number {
     DOCK_START = 0,
     DOCK_STOP = 1,
     DOCK_BYTE = 2,   /* first: the byte from the host */
@@ -38,11 +70,26 @@ enum dock_kind {
     DOCK_TIMEOUT = 7 /* the bus clock was held low too long */
 };
 
+/* The refusals, by call. "call": the call refuses. "record": the record of that word says so, and the call goes on.
+ * dock_version gives 0 only.
+ *
+ * | no. | given when | begin | step | batch | reading, outputs | replay | pack | unpack |
+ * |---|---|---|---|---|---|---|---|---|
+ * | 0 | none below | call | call | call, record | call | call, record | call | call |
+ * | 1 | the state has another length, or (not begin) is no image of a fit state | call | call | call | call | | | |
+ * | 2 | a bit is set that must be 0, or the three numbers are no event's | | call | record | | record | call | call |
+ * | 3 | no RESET yet, and the word is not one | | call | record | | record | | |
+ * | 4 | fewer than 4 record bytes for each word | | | call | | call | | |
+ * | 5 | over 16,384 words | | | call | | call | | |
+ * | 6 | RESET with straps above 15 | | | | | | call | |
+ * | 7-15 | never in this version | | | | | | | |
+ *
+ * Where more than one could be given, the order is 1, 5, 4 for a call with words, and 1, 2, 3 for an event. */
 enum dock_refusal_number {
     DOCK_ACCEPTED = 0,
-    DOCK_UNFIT_STATE = 1, /* never from the calls below: they make their own state */
-    DOCK_STRAY_BIT = 2,   /* a bit or number is set that must be 0 */
-    DOCK_NOT_STARTED = 3, /* in a record only: no RESET yet, and the word is not one */
+    DOCK_UNFIT_STATE = 1,
+    DOCK_STRAY_BIT = 2,
+    DOCK_NOT_STARTED = 3,
     DOCK_SHORT_ANSWERS = 4,
     DOCK_TOO_MANY_WORDS = 5,
     DOCK_WIDE_STRAPS = 6
@@ -69,49 +116,109 @@ enum dock_output {
     DOCK_INTERRUPT = 0x001
 };
 
-/* Replays the words and writes one record of four bytes for each, in order, from records[0] on. A word that is
- * refused (2 or 3) has its record like any other, and the replay goes on.
- * Value: the count of records. Bytes past the last record are not touched.
- * Refusals, in this order, with value 0 and nothing written: 5 above 16,384 words, 4 where records_len is less than
- * 4 * words_len. */
+/* ---- calls: all but dock_step answer the refusal in bits 31-16 and a value in bits 15-0, 0 with a refusal ---- */
+
+/* Writes the image of a fresh state, which has had no RESET yet. Value: 0. */
+uint32_t dock_begin(uint8_t *state, size_t state_len);
+
+/* One event. The answer is the event's record as a number, and has a layout of its own: refusal in bits 31-28, reply in
+ * 27-25, byte in 24-17, outputs in 16-8, zeros in 7-0. With refusal 1 everything below it is 0; with 2 and 3 the state
+ * stays as it was and its outputs are told. */
+uint32_t dock_step(uint8_t *state, size_t state_len, uint16_t word);
+
+/* The words one after the other, each as by dock_step, and for each a record of four bytes, in order, from records[0]
+ * on: the number that dock_step answers, most significant byte first. A word that is refused with 2 or 3 has its record
+ * like any other. Bytes past the last record are not touched. Value: the count of records. */
+uint32_t dock_batch(uint8_t *state, size_t state_len, const uint16_t *words, size_t words_len, uint8_t *records,
+                    size_t records_len);
+
+/* Value: what the register at the address reads, outside the bus. */
+uint32_t dock_reading(const uint8_t *state, size_t state_len, uint8_t address);
+
+/* Value: the nine outputs. */
+uint32_t dock_outputs(const uint8_t *state, size_t state_len);
+
+/* As dock_batch, from a fresh state that nobody keeps. */
 uint32_t dock_replay(const uint16_t *words, size_t words_len, uint8_t *records, size_t records_len);
 
-/* Value: what the register at the address reads after the words. Refusal: 5 above 16,384 words. */
-uint32_t dock_reading(const uint16_t *words, size_t words_len, uint8_t address);
-
-/* Value: the nine outputs after the words. Refusal: 5 above 16,384 words. */
-uint32_t dock_outputs(const uint16_t *words, size_t words_len);
-
-/* Value: the word of an event. Refusals, with value 0: 6 for a RESET with straps above 15; 2 where the three numbers
- * are no event's: a kind above 7, a TAKE whose first number is above 1, a number set that the kind does not have. */
+/* Value: the word of an event. Three numbers are no event's where the kind is above 7, a TAKE's first number is above
+ * 1, or a number is set that the kind does not have. */
 uint32_t dock_pack(uint8_t kind, uint8_t first, uint8_t second);
 
-/* The event of a word, with a layout of its own: bits 31-24 the refusal (0, or 2 where a bit is set that must be 0),
- * 23-16 the kind, 15-8 the first number, 7-0 the second. All bits below a refusal are 0. */
+/* Value: the two numbers of a word's event, the first in bits 15-8, the second in 7-0. */
 uint32_t dock_unpack(uint16_t word);
 
-/* An answer taken apart; not for dock_unpack's. */
+/* ---- answers taken apart ---- */
+
+/* Of every call but dock_step. */
 static inline uint32_t dock_refusal(uint32_t answer) { return answer >> 16; }
 static inline uint16_t dock_value(uint32_t answer) { return (uint16_t)(answer & 0xFFFFu); }
 
-/* dock_unpack's answer taken apart. */
-static inline uint32_t dock_event_refusal(uint32_t event) { return event >> 24; }
-static inline uint8_t dock_event_kind(uint32_t event) { return (uint8_t)(event >> 16 & 0xFFu); }
-static inline uint8_t dock_event_first(uint32_t event) { return (uint8_t)(event >> 8 & 0xFFu); }
-static inline uint8_t dock_event_second(uint32_t event) { return (uint8_t)(event & 0xFFu); }
+/* dock_step's answer, or a record's four bytes as the same number. */
+static inline uint32_t dock_record(const uint8_t *bytes) {
+    return (uint32_t)bytes[0] << 24 | (uint32_t)bytes[1] << 16 | (uint32_t)bytes[2] << 8 | bytes[3];
+}
+static inline uint32_t dock_record_refusal(uint32_t record) { return record >> 28; }
+static inline uint32_t dock_record_reply(uint32_t record) { return record >> 25 & 7u; }
+static inline uint8_t dock_record_byte(uint32_t record) { return (uint8_t)(record >> 17 & 0xFFu); }
+static inline uint16_t dock_record_outputs(uint32_t record) { return (uint16_t)(record >> 8 & 0x1FFu); }
 
-/* A record taken apart: refusal 4 bits, reply 3, byte 8, outputs 9, eight zero bits, most significant first. */
-static inline uint32_t dock_record_bits(const uint8_t *record) {
-    return (uint32_t)record[0] << 24 | (uint32_t)record[1] << 16 | (uint32_t)record[2] << 8 | record[3];
-}
-static inline uint32_t dock_record_refusal(const uint8_t *record) { return dock_record_bits(record) >> 28; }
-static inline uint32_t dock_record_reply(const uint8_t *record) { return dock_record_bits(record) >> 25 & 7u; }
-static inline uint8_t dock_record_byte(const uint8_t *record) {
-    return (uint8_t)(dock_record_bits(record) >> 17 & 0xFFu);
-}
-static inline uint16_t dock_record_outputs(const uint8_t *record) {
-    return (uint16_t)(dock_record_bits(record) >> 8 & 0x1FFu);
-}
+/* A word's kind, and the two numbers in dock_unpack's answer. */
+static inline uint8_t dock_kind(uint16_t word) { return (uint8_t)(word >> 13); }
+static inline uint8_t dock_first(uint32_t unpacked) { return (uint8_t)(unpacked >> 8 & 0xFFu); }
+static inline uint8_t dock_second(uint32_t unpacked) { return (uint8_t)(unpacked & 0xFFu); }
+
+/* ---- the image of a state, byte by byte: for reports and for tests, the calls need none of it ----
+ *
+ * Bytes are no image where the length is another one, byte 0 is not DOCK_LAYOUT, a flag is above 1, the progress is
+ * above 6, or a byte is not 0 that the progress does not use. Every other byte string is the image of exactly one
+ * state, which is unfit where a number is outside the range named. To a caller both are refusal 1.
+ *
+ * DOCK_LAYOUT rises whenever a byte, a range or the length changes. An image of another layout is refused with 1: it is
+ * not carried over, and a program that finds one begins anew. */
+#define DOCK_LAYOUT 1u
+
+#define DOCK_AT_VERSION 0u /* DOCK_LAYOUT */
+/* Flags: 0 or 1. */
+#define DOCK_AT_STARTED 1u       /* a RESET came */
+#define DOCK_AT_DBCCR_WRITTEN 2u /* .. and since then a write of DBCCR */
+#define DOCK_AT_SECLOCK 3u
+#define DOCK_AT_FLAGS_0 4u  /* fourteen flags of bay 0 */
+#define DOCK_AT_FLAGS_1 18u /* the same of bay 1 */
+/* Numbers. */
+#define DOCK_AT_STRAPS 32u    /* 0-15 */
+#define DOCK_AT_BAY_COUNT 33u /* 0-3 */
+#define DOCK_AT_LOCK_TIME 34u /* 0-3: LETR */
+#define DOCK_AT_PHASE 35u     /* 0-199 */
+#define DOCK_AT_NUMBERS_0 36u /* six numbers of bay 0 */
+#define DOCK_AT_NUMBERS_1 42u /* the same of bay 1 */
+/* The command in progress: 0 none is open; 1 START came, 2 own write byte, 3 register byte, 4 data byte, 5 second
+ * START, 6 own read byte. */
+#define DOCK_AT_PROGRESS 48u
+#define DOCK_AT_FIRST 49u  /* 3 to 5: the register byte; 6: the value that the TAKE gives; else 0 */
+#define DOCK_AT_SECOND 50u /* 4: the data byte; else 0 */
+
+/* Where the flags and the numbers of bay 0 or 1 begin. */
+#define DOCK_AT_BAY_FLAGS(bay) ((bay) == 0 ? DOCK_AT_FLAGS_0 : DOCK_AT_FLAGS_1)
+#define DOCK_AT_BAY_NUMBERS(bay) ((bay) == 0 ? DOCK_AT_NUMBERS_0 : DOCK_AT_NUMBERS_1)
+
+/* From DOCK_AT_BAY_FLAGS on. */
+#define DOCK_BAY_LEVELS 0u   /* n1394, nUSB, nREMREQ as last sampled */
+#define DOCK_BAY_ACCEPTED 3u /* the same as accepted */
+#define DOCK_BAY_N_SL 6u     /* as last sampled */
+#define DOCK_BAY_REMREQ_STS 7u
+#define DOCK_BAY_DEVSTSCHG 8u
+#define DOCK_BAY_LOCK_CTL 9u
+#define DOCK_BAY_REMREQ_EN 10u
+#define DOCK_BAY_DEVSTSCHG_EN 11u
+#define DOCK_BAY_REMEVTWAK_EN 12u
+#define DOCK_BAY_PWR_CTL 13u
+
+/* From DOCK_AT_BAY_NUMBERS on. */
+#define DOCK_BAY_COUNTS 0u  /* 0-9 each: n1394, nUSB, nREMREQ */
+#define DOCK_BAY_STATE 3u   /* 0-4 */
+#define DOCK_BAY_REQUEST 4u /* 0-4 */
+#define DOCK_BAY_PULSE 5u   /* 0-200 */
 
 #ifdef __cplusplus
 }

@@ -1,23 +1,54 @@
-//! The three controllers that are asked the same: the proved library, the model, and the C controller.
+//! The controllers that are asked the same: the proved library in two ways, the model, and the C controller.
 
+use dock::ffi;
+use model::{numbers, Controller};
 use paper::Calls;
 
+/// A whole history in one call; for questions, a held state that was stepped word by word.
 pub const LIBRARY: Calls = Calls {
     name: "library",
-    replay: |words, records| dock::replay(words, records).raw(),
-    reading: |words, address| dock::reading(words, address).raw(),
-    outputs: |words| dock::outputs(words).raw(),
+    replay: ffi::replay,
+    reading: |words, address| ffi::reading(&stepped(words), address),
+    outputs: |words| ffi::outputs(&stepped(words)),
+};
+
+/// A begun state that was given the words as a batch.
+pub const HELD: Calls = Calls {
+    name: "library, a held state",
+    replay: |words, records| ffi::batch(&mut begun(), words, records),
+    reading: |words, address| ffi::reading(&batched(words), address),
+    outputs: |words| ffi::outputs(&batched(words)),
 };
 
 pub const MODEL: Calls = Calls {
     name: "model",
-    replay: model::numbers::replay,
-    reading: model::numbers::reading,
-    outputs: model::numbers::outputs,
+    replay: numbers::replay,
+    reading: |words, address| u32::from(Controller::after(words).reading(address)),
+    outputs: |words| u32::from(Controller::after(words).outputs()),
 };
 
 pub const PLAIN: Calls =
     Calls { name: "C controller", replay: plain::replay, reading: plain::reading, outputs: plain::outputs };
 
-/// Those that are held against the model.
-pub const COMPARED: [Calls; 2] = [LIBRARY, PLAIN];
+type State = [u8; dock::STATE_BYTES];
+
+fn begun() -> State {
+    let mut state = [0; dock::STATE_BYTES];
+    ffi::begin(&mut state);
+    state
+}
+
+fn stepped(words: &[u16]) -> State {
+    let mut state = begun();
+    for &word in words {
+        ffi::step(&mut state, word);
+    }
+    state
+}
+
+fn batched(words: &[u16]) -> State {
+    let mut state = begun();
+    let mut records = vec![0; dock::RECORD_BYTES * words.len()];
+    ffi::batch(&mut state, words, &mut records);
+    state
+}

@@ -2,9 +2,10 @@
 //!
 //! The dock starts with a USB device in bay 0. The host enables the bay, locked and powered, and then clears the
 //! "device status changed" bit; between the register byte and the data byte of that write the button goes down and
-//! settles. The program prints every record in words, and what the status register reads at the end.
+//! settles. The program holds the dock, gives it one word after the other, prints what came of each, and what the
+//! status register reads at the end.
 
-use dock::{Bay, Event, Refusal, Register, Status};
+use dock::{Bay, Dock, Error, Event, Register};
 
 const OWN: u8 = 0x90;
 
@@ -16,32 +17,33 @@ const USB_IN_BAY_0: u8 = 0xBF;
 const BUTTON_DOWN: u8 = 0x9F;
 const SETTLING_TICKS: usize = 10;
 
+fn tell(dock: &mut Dock, event: Event) -> Result<(), Error> {
+    let word = u16::try_from(event)?;
+    let step = dock.step(word)?;
+    println!("{:04X}  {:12}  {:16}  {}", word, event.to_string(), step.reply.to_string(), step.outputs);
+    Ok(())
+}
+
+fn tell_all(dock: &mut Dock, events: &[Event]) -> Result<(), Error> {
+    events.iter().try_for_each(|&event| tell(dock, event))
+}
+
 /// The write that clears the bit, with the press between its register byte and its data byte.
-fn interrupted_write() -> Vec<Event> {
-    let mut events = vec![Event::Start, Event::Byte(OWN), Event::Byte(Register::status(Bay::Zero))];
-    events.push(Event::Pins(BUTTON_DOWN));
-    events.extend([Event::Tick; SETTLING_TICKS]);
-    events.extend([Event::Byte(CLEAR_STATUS_CHANGED), Event::Stop]);
-    events
+fn interrupted_write(dock: &mut Dock) -> Result<(), Error> {
+    let write = dock::write(OWN, Register::status(Bay::Zero), CLEAR_STATUS_CHANGED);
+    let (until_register, from_data) = write.split_at(3);
+    tell_all(dock, until_register)?;
+    tell(dock, Event::Pins(BUTTON_DOWN))?;
+    tell_all(dock, &[Event::Tick; SETTLING_TICKS])?;
+    tell_all(dock, from_data)
 }
 
-fn story() -> Result<Vec<u16>, Refusal> {
-    let mut words = vec![Event::Reset { straps: 0, levels: USB_IN_BAY_0 }.word()?];
-    words.extend(dock::write(OWN, Register::control(Bay::Zero), ENABLE));
-    for event in interrupted_write() {
-        words.push(event.word()?);
-    }
-    words.extend(dock::read(OWN, Register::status(Bay::Zero)));
-    Ok(words)
-}
-
-fn main() -> Result<(), Refusal> {
-    let words = story()?;
-    for (&word, record) in words.iter().zip(dock::records(&words)?) {
-        let event = Event::of_word(word)?.to_string();
-        println!("{:04X}  {:12}  {:16}  {}", word, event, record.reply().to_string(), record.outputs());
-    }
-    let status: Status = dock::status(&words, Bay::Zero)?;
-    println!("bay 0 reads {}", status);
+fn main() -> Result<(), Error> {
+    let mut dock = Dock::new()?;
+    tell(&mut dock, Event::Reset { straps: 0, levels: USB_IN_BAY_0 })?;
+    tell_all(&mut dock, &dock::write(OWN, Register::control(Bay::Zero), ENABLE))?;
+    interrupted_write(&mut dock)?;
+    tell_all(&mut dock, &dock::read(OWN, Register::status(Bay::Zero)))?;
+    println!("bay 0 reads {}", dock.status(Bay::Zero)?);
     Ok(())
 }

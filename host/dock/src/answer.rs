@@ -1,193 +1,103 @@
-//! Answers: a refusal or a value, a record of four bytes, the nine outputs.
+//! Answers taken apart: the refusal and the value of a call, the record of a word.
 
-use crate::Bay;
-use std::fmt;
+use crate::{Error, Outputs, Refusal, Reply, Unnamed, RECORD_BYTES};
 
-/// Why a call or a word was refused.
+/// The value of an answer that has its refusal in bits 31-16.
+pub(crate) fn value(answer: u32) -> Result<u16, Error> {
+    match (answer >> 16) as u16 {
+        0 => Ok(answer as u16),
+        number => Err(Refusal::try_from(number)?.into()),
+    }
+}
+
+/// The value of an answer whose value is a byte.
+pub(crate) fn byte(answer: u32) -> Result<u8, Error> {
+    let value = value(answer)?;
+    u8::try_from(value).map_err(|_| Unnamed { what: "byte", number: u32::from(value) }.into())
+}
+
+/// What an event that was taken led to.
 #[derive(Clone, Copy, PartialEq, Eq, Debug)]
-pub enum Refusal {
-    UnfitState,
-    StrayBit,
-    NotStarted,
-    ShortAnswers,
-    TooManyWords,
-    WideStraps,
-    /// A number that the interface does not have; a library that answers it is not this one.
-    Unknown(u16),
+pub struct Step {
+    pub reply: Reply,
+    /// The outputs after the event.
+    pub outputs: Outputs,
 }
 
-impl Refusal {
-    fn of_number(number: u16) -> Option<Refusal> {
-        Some(match number {
-            0 => return None,
-            1 => Refusal::UnfitState,
-            2 => Refusal::StrayBit,
-            3 => Refusal::NotStarted,
-            4 => Refusal::ShortAnswers,
-            5 => Refusal::TooManyWords,
-            6 => Refusal::WideStraps,
-            other => Refusal::Unknown(other),
-        })
-    }
-}
-
-impl fmt::Display for Refusal {
-    fn fmt(&self, f: &mut fmt::Formatter) -> fmt::Result {
-        match self {
-            Refusal::UnfitState => f.write_str("the state is not fit"),
-            Refusal::StrayBit => f.write_str("a bit that must be 0 is set"),
-            Refusal::NotStarted => f.write_str("no RESET has come yet"),
-            Refusal::ShortAnswers => f.write_str("fewer than four answer bytes for each word"),
-            Refusal::TooManyWords => f.write_str("more than 16,384 words"),
-            Refusal::WideStraps => f.write_str("straps above 15"),
-            Refusal::Unknown(number) => write!(f, "unknown refusal {}", number),
-        }
-    }
-}
-
-impl std::error::Error for Refusal {}
-
-/// The answer of a call: the refusal number times 65,536 plus the value.
+/// The record of one word, refused or not.
+///
+/// ```
+/// use dock::{Record, Reply};
+///
+/// // The last record of the paper's trace.
+/// let record = Record::try_from([0x06, 0x2A, 0x41, 0x00])?;
+/// assert_eq!(record.refusal, None);
+/// assert_eq!(record.reply, Reply::Driven(0x15));
+/// assert!(record.outputs.interrupt());
+/// // A record ends in eight zero bits. What a later version may put there is not passed over.
+/// assert!(Record::try_from([0x06, 0x2A, 0x41, 0x01]).is_err());
+/// # Ok::<(), dock::Unnamed>(())
+/// ```
 #[derive(Clone, Copy, PartialEq, Eq, Debug)]
-pub struct Answer(u32);
-
-impl Answer {
-    pub(crate) fn new(raw: u32) -> Answer {
-        Answer(raw)
-    }
-
-    /// The number as the library gave it.
-    pub fn raw(self) -> u32 {
-        self.0
-    }
-
-    pub fn refusal(self) -> Option<Refusal> {
-        Refusal::of_number((self.0 >> 16) as u16)
-    }
-
-    pub fn value(self) -> u16 {
-        self.0 as u16
-    }
-
-    pub fn result(self) -> Result<u16, Refusal> {
-        match self.refusal() {
-            Some(refusal) => Err(refusal),
-            None => Ok(self.value()),
-        }
-    }
+pub struct Record {
+    pub refusal: Option<Refusal>,
+    pub reply: Reply,
+    /// The outputs after the word; those of the state as it was, where the word is refused.
+    pub outputs: Outputs,
 }
-
-/// What the host sees on the bus after one word.
-#[derive(Clone, Copy, PartialEq, Eq, Debug)]
-pub enum Reply {
-    None,
-    Ack,
-    NoAck,
-    Driven(u8),
-    NotDriven,
-    /// A number that the interface does not have.
-    Unknown(u8),
-}
-
-impl fmt::Display for Reply {
-    fn fmt(&self, f: &mut fmt::Formatter) -> fmt::Result {
-        match self {
-            Reply::None => f.write_str("-"),
-            Reply::Ack => f.write_str("acknowledged"),
-            Reply::NoAck => f.write_str("not acknowledged"),
-            Reply::Driven(value) => write!(f, "drives {:02X}h", value),
-            Reply::NotDriven => f.write_str("drives nothing"),
-            Reply::Unknown(number) => write!(f, "unknown reply {}", number),
-        }
-    }
-}
-
-/// The four-byte record of one word.
-#[derive(Clone, Copy, PartialEq, Eq, Debug)]
-pub struct Record(u32);
 
 impl Record {
-    pub fn new(bytes: [u8; 4]) -> Record {
-        Record(u32::from_be_bytes(bytes))
-    }
-
-    pub fn bytes(self) -> [u8; 4] {
-        self.0.to_be_bytes()
-    }
-
-    pub fn refusal(self) -> Option<Refusal> {
-        Refusal::of_number((self.0 >> 28) as u16)
-    }
-
-    pub fn reply(self) -> Reply {
-        match (self.0 >> 25 & 7) as u8 {
-            0 => Reply::None,
-            1 => Reply::Ack,
-            2 => Reply::NoAck,
-            3 => Reply::Driven((self.0 >> 17) as u8),
-            4 => Reply::NotDriven,
-            other => Reply::Unknown(other),
+    /// The step of a word that was taken.
+    pub fn step(self) -> Result<Step, Refusal> {
+        match self.refusal {
+            None => Ok(Step { reply: self.reply, outputs: self.outputs }),
+            Some(refusal) => Err(refusal),
         }
-    }
-
-    pub fn outputs(self) -> Outputs {
-        Outputs::new((self.0 >> 8) as u16 & 0x1FF)
     }
 }
 
-/// The nine outputs.
-#[derive(Clone, Copy, PartialEq, Eq, Debug)]
-pub struct Outputs(u16);
+impl TryFrom<u32> for Record {
+    type Error = Unnamed;
 
-impl Outputs {
-    pub fn new(bits: u16) -> Outputs {
-        Outputs(bits)
-    }
-
-    fn of_bay(self, bay: Bay, bit: u16) -> bool {
-        let place = match bay {
-            Bay::Zero => 5,
-            Bay::One => 1,
+    /// Refusal 4 bits, reply 3, byte 8, outputs 9, eight zero bits, most significant first.
+    fn try_from(bits: u32) -> Result<Record, Unnamed> {
+        if bits & 0xFF != 0 {
+            return Err(Unnamed { what: "record", number: bits });
+        }
+        let refusal = match (bits >> 28) as u16 {
+            0 => None,
+            number => Some(Refusal::try_from(number)?),
         };
-        self.0 >> place & bit != 0
-    }
-
-    pub fn power(self, bay: Bay) -> bool {
-        self.of_bay(bay, 8)
-    }
-
-    pub fn lock_pin(self, bay: Bay) -> bool {
-        self.of_bay(bay, 4)
-    }
-
-    pub fn green(self, bay: Bay) -> bool {
-        self.of_bay(bay, 2)
-    }
-
-    pub fn yellow(self, bay: Bay) -> bool {
-        self.of_bay(bay, 1)
-    }
-
-    pub fn interrupt(self) -> bool {
-        self.0 & 1 != 0
+        let reply = Reply::try_from(((bits >> 25 & 7) as u8, (bits >> 17) as u8))?;
+        let outputs = Outputs::try_from((bits >> 8 & 0x1FF) as u16)?;
+        Ok(Record { refusal, reply, outputs })
     }
 }
 
-impl fmt::Display for Outputs {
-    fn fmt(&self, f: &mut fmt::Formatter) -> fmt::Result {
-        let mut on = Vec::new();
-        for bay in [Bay::Zero, Bay::One] {
-            let named = [
-                (self.power(bay), "power"),
-                (self.lock_pin(bay), "lock"),
-                (self.green(bay), "green"),
-                (self.yellow(bay), "yellow"),
-            ];
-            on.extend(named.iter().filter(|(set, _)| *set).map(|(_, name)| format!("{} {}", name, bay)));
-        }
-        if self.interrupt() {
-            on.push("interrupt".to_string());
-        }
-        f.write_str(&if on.is_empty() { "all off".to_string() } else { on.join(", ") })
+impl TryFrom<[u8; RECORD_BYTES]> for Record {
+    type Error = Unnamed;
+
+    fn try_from(bytes: [u8; RECORD_BYTES]) -> Result<Record, Unnamed> {
+        Record::try_from(u32::from_be_bytes(bytes))
+    }
+}
+
+/// The records that a batch wrote. Bytes at the end that are too few for a record are left out.
+pub fn records(bytes: &[u8]) -> impl Iterator<Item = Result<Record, Unnamed>> + '_ {
+    bytes.chunks_exact(RECORD_BYTES).map(|four| Record::try_from([four[0], four[1], four[2], four[3]]))
+}
+
+#[cfg(test)]
+mod tests {
+    use super::*;
+
+    #[test]
+    fn an_answer_is_a_refusal_or_its_value() {
+        assert_eq!(value(0x0000_C0BF), Ok(0xC0BF));
+        assert_eq!(value(0x0005_0000), Err(Error::Refused(Refusal::TooManyWords)));
+        assert_eq!(value(0x0007_0000), Err(Error::Unnamed(Unnamed { what: "refusal", number: 7 })));
+        assert_eq!(value(0x1000_0000), Err(Error::Unnamed(Unnamed { what: "refusal", number: 0x1000 })));
+        assert_eq!(byte(0x0000_00FF), Ok(0xFF));
+        assert_eq!(byte(0x0000_0100), Err(Error::Unnamed(Unnamed { what: "byte", number: 0x100 })));
     }
 }

@@ -1,9 +1,22 @@
 //! Events and their words.
 
-use crate::{pack, unpack, Refusal};
-use std::fmt;
+use crate::{pack, unpack, Error, Unnamed};
+use core::fmt;
+
+/// The most that four straps make.
+const MOST_STRAPS: u8 = 15;
 
 /// One thing that happens to the dock.
+///
+/// ```
+/// use dock::{Error, Event, Refusal};
+///
+/// assert_eq!(Event::try_from(0x4090)?, Event::Byte(0x90));
+/// assert_eq!(u16::try_from(Event::Reset { straps: 0, levels: 0xBF })?, 0xC0BF);
+/// assert_eq!(Event::try_from(0xA001), Err(Error::Refused(Refusal::StrayBit)));
+/// assert_eq!(u16::try_from(Event::Reset { straps: 16, levels: 0 }), Err(Error::Refused(Refusal::WideStraps)));
+/// # Ok::<(), Error>(())
+/// ```
 #[derive(Clone, Copy, PartialEq, Eq, Debug)]
 pub enum Event {
     Start,
@@ -31,19 +44,40 @@ impl Event {
         }
     }
 
-    /// The word of the event; refused only for straps above 15.
-    pub fn word(self) -> Result<u16, Refusal> {
-        let (kind, first, second) = self.numbers();
-        pack(kind, first, second).result()
+    /// The event of these numbers. Numbers that no event of this version has are not cut to fit one: a library whose
+    /// RESET has more straps is told as such.
+    fn of_numbers(kind: u8, first: u8, second: u8) -> Result<Event, Unnamed> {
+        Ok(match (kind, first, second) {
+            (0, 0, 0) => Event::Start,
+            (1, 0, 0) => Event::Stop,
+            (2, value, 0) => Event::Byte(value),
+            (3, 0 | 1, 0) => Event::Take { ack: first == 1 },
+            (4, levels, 0) => Event::Pins(levels),
+            (5, 0, 0) => Event::Tick,
+            (6, straps, levels) if straps <= MOST_STRAPS => Event::Reset { straps, levels },
+            (7, 0, 0) => Event::Timeout,
+            _ => return Err(Unnamed { what: "event", number: u32::from_be_bytes([0, kind, first, second]) }),
+        })
     }
+}
 
-    /// The event of a word; refused where a bit that must be 0 is set.
-    pub fn of_word(word: u16) -> Result<Event, Refusal> {
-        let unpacked = unpack(word);
-        match unpacked.refusal() {
-            Some(refusal) => Err(refusal),
-            None => Ok(unpacked.event()),
-        }
+impl TryFrom<u16> for Event {
+    type Error = Error;
+
+    /// Refused where a bit that must be 0 is set.
+    fn try_from(word: u16) -> Result<Event, Error> {
+        let (first, second) = unpack(word)?;
+        Ok(Event::of_numbers((word >> 13) as u8, first, second)?)
+    }
+}
+
+impl TryFrom<Event> for u16 {
+    type Error = Error;
+
+    /// Refused only for straps above 15.
+    fn try_from(event: Event) -> Result<u16, Error> {
+        let (kind, first, second) = event.numbers();
+        pack(kind, first, second)
     }
 }
 
@@ -63,72 +97,32 @@ impl fmt::Display for Event {
     }
 }
 
-/// The answer of [`unpack`]: refusal, kind and two numbers, eight bits each.
-#[derive(Clone, Copy, PartialEq, Eq, Debug)]
-pub struct Unpacked(u32);
-
-impl Unpacked {
-    pub(crate) fn new(raw: u32) -> Unpacked {
-        Unpacked(raw)
-    }
-
-    /// The number as the library gave it.
-    pub fn raw(self) -> u32 {
-        self.0
-    }
-
-    pub fn refusal(self) -> Option<Refusal> {
-        match self.0 >> 24 {
-            0 => None,
-            2 => Some(Refusal::StrayBit),
-            other => Some(Refusal::Unknown(other as u16)),
-        }
-    }
-
-    pub fn kind(self) -> u8 {
-        (self.0 >> 16) as u8
-    }
-
-    pub fn first(self) -> u8 {
-        (self.0 >> 8) as u8
-    }
-
-    pub fn second(self) -> u8 {
-        self.0 as u8
-    }
-
-    /// The event that an accepted word stands for.
-    fn event(self) -> Event {
-        match self.kind() {
-            0 => Event::Start,
-            1 => Event::Stop,
-            2 => Event::Byte(self.first()),
-            3 => Event::Take { ack: self.first() == 1 },
-            4 => Event::Pins(self.first()),
-            5 => Event::Tick,
-            6 => Event::Reset { straps: self.first(), levels: self.second() },
-            _ => Event::Timeout,
-        }
-    }
+/// A whole write; `own` is the dock's address byte for writing.
+pub fn write(own: u8, register: u8, value: u8) -> [Event; 5] {
+    [Event::Start, Event::Byte(own), Event::Byte(register), Event::Byte(value), Event::Stop]
 }
 
-fn words<const COUNT: usize>(events: [Event; COUNT]) -> [u16; COUNT] {
-    events.map(|event| event.word().expect("bus events always pack"))
-}
-
-/// The words of a whole write; `own` is the dock's address byte for writing.
-pub fn write(own: u8, register: u8, value: u8) -> [u16; 5] {
-    words([Event::Start, Event::Byte(own), Event::Byte(register), Event::Byte(value), Event::Stop])
-}
-
-/// The words of a whole read; `own` is the dock's address byte for writing.
-pub fn read(own: u8, register: u8) -> [u16; 6] {
-    words([
+/// A whole read; `own` is the dock's address byte for writing.
+pub fn read(own: u8, register: u8) -> [Event; 6] {
+    [
         Event::Start,
         Event::Byte(own),
         Event::Byte(register),
         Event::Start,
         Event::Byte(own | 1),
         Event::Take { ack: false },
-    ])
+    ]
+}
+
+#[cfg(test)]
+mod tests {
+    use super::*;
+
+    #[test]
+    fn numbers_that_no_event_has_are_told() {
+        for (kind, first, second) in [(0, 1, 0), (1, 0, 1), (2, 0, 1), (3, 2, 0), (4, 0, 1), (6, 16, 0), (7, 1, 0)] {
+            let number = u32::from_be_bytes([0, kind, first, second]);
+            assert_eq!(Event::of_numbers(kind, first, second), Err(Unnamed { what: "event", number }));
+        }
+    }
 }

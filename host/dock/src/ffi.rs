@@ -1,9 +1,70 @@
-//! The C interface, as `include/dock.h` has it.
+//! The calls of the C interface as they are, numbers in and numbers out, over slices.
+//!
+//! Everything that the compiler can't check is here. What `include/dock.h` asks of a caller is true of every slice: its
+//! pointer is aligned and good for its length, and one that may be written through overlaps no other.
+#![allow(unsafe_code)]
 
 extern "C" {
-    pub fn dock_replay(words: *const u16, words_len: usize, records: *mut u8, records_len: usize) -> u32;
-    pub fn dock_reading(words: *const u16, words_len: usize, address: u8) -> u32;
-    pub fn dock_outputs(words: *const u16, words_len: usize) -> u32;
-    pub fn dock_pack(kind: u8, first: u8, second: u8) -> u32;
-    pub fn dock_unpack(word: u16) -> u32;
+    fn dock_version() -> u32;
+    fn dock_begin(state: *mut u8, state_len: usize) -> u32;
+    fn dock_step(state: *mut u8, state_len: usize, word: u16) -> u32;
+    fn dock_batch(
+        state: *mut u8,
+        state_len: usize,
+        words: *const u16,
+        words_len: usize,
+        records: *mut u8,
+        records_len: usize,
+    ) -> u32;
+    fn dock_reading(state: *const u8, state_len: usize, address: u8) -> u32;
+    fn dock_outputs(state: *const u8, state_len: usize) -> u32;
+    fn dock_replay(words: *const u16, words_len: usize, records: *mut u8, records_len: usize) -> u32;
+    fn dock_pack(kind: u8, first: u8, second: u8) -> u32;
+    fn dock_unpack(word: u16) -> u32;
+}
+
+pub fn version() -> u32 {
+    // SAFETY: takes nothing.
+    unsafe { dock_version() }
+}
+
+pub fn begin(state: &mut [u8]) -> u32 {
+    // SAFETY: the slice is lent for writing, and its own length goes with it.
+    unsafe { dock_begin(state.as_mut_ptr(), state.len()) }
+}
+
+pub fn step(state: &mut [u8], word: u16) -> u32 {
+    // SAFETY: the slice is lent for writing, and its own length goes with it.
+    unsafe { dock_step(state.as_mut_ptr(), state.len(), word) }
+}
+
+pub fn batch(state: &mut [u8], words: &[u16], records: &mut [u8]) -> u32 {
+    let (words_at, records_at) = (words.as_ptr(), records.as_mut_ptr());
+    // SAFETY: three slices, each with its own length; the two lent for writing overlap nothing.
+    unsafe { dock_batch(state.as_mut_ptr(), state.len(), words_at, words.len(), records_at, records.len()) }
+}
+
+pub fn reading(state: &[u8], address: u8) -> u32 {
+    // SAFETY: the slice goes with its own length; the call only reads.
+    unsafe { dock_reading(state.as_ptr(), state.len(), address) }
+}
+
+pub fn outputs(state: &[u8]) -> u32 {
+    // SAFETY: the slice goes with its own length; the call only reads.
+    unsafe { dock_outputs(state.as_ptr(), state.len()) }
+}
+
+pub fn replay(words: &[u16], records: &mut [u8]) -> u32 {
+    // SAFETY: two slices, each with its own length; the one lent for writing doesn't overlap the other.
+    unsafe { dock_replay(words.as_ptr(), words.len(), records.as_mut_ptr(), records.len()) }
+}
+
+pub fn pack(kind: u8, first: u8, second: u8) -> u32 {
+    // SAFETY: numbers only.
+    unsafe { dock_pack(kind, first, second) }
+}
+
+pub fn unpack(word: u16) -> u32 {
+    // SAFETY: a number only.
+    unsafe { dock_unpack(word) }
 }

@@ -1,6 +1,7 @@
 //! The registers of a bay, by name.
 
-use std::fmt;
+use crate::Unnamed;
+use core::fmt;
 
 /// One of the two bays.
 #[derive(Clone, Copy, PartialEq, Eq, Debug)]
@@ -47,71 +48,94 @@ pub enum BayState {
     Enabled,
     RemovalRequested,
     RemovalAllowed,
-    /// A number that the data sheet reserves.
-    Reserved(u8),
 }
 
-impl fmt::Display for BayState {
-    fn fmt(&self, f: &mut fmt::Formatter) -> fmt::Result {
-        match self {
-            BayState::Empty => f.write_str("Empty"),
-            BayState::Inserted => f.write_str("Inserted"),
-            BayState::Enabled => f.write_str("Enabled"),
-            BayState::RemovalRequested => f.write_str("Removal Requested"),
-            BayState::RemovalAllowed => f.write_str("Removal Allowed"),
-            BayState::Reserved(number) => write!(f, "reserved state {}", number),
-        }
-    }
-}
+impl TryFrom<u8> for BayState {
+    type Error = Unnamed;
 
-/// A reading of a bay's status register.
-#[derive(Clone, Copy, PartialEq, Eq, Debug)]
-pub struct Status(u8);
-
-impl Status {
-    pub fn new(bits: u8) -> Status {
-        Status(bits)
-    }
-
-    pub fn bits(self) -> u8 {
-        self.0
-    }
-
-    pub fn state(self) -> BayState {
-        match self.0 >> 4 & 7 {
+    /// The data sheet reserves the numbers above 4.
+    fn try_from(number: u8) -> Result<BayState, Unnamed> {
+        Ok(match number {
             0 => BayState::Empty,
             1 => BayState::Inserted,
             2 => BayState::Enabled,
             3 => BayState::RemovalRequested,
             4 => BayState::RemovalAllowed,
-            other => BayState::Reserved(other),
-        }
+            _ => return Err(Unnamed { what: "bay state", number: u32::from(number) }),
+        })
+    }
+}
+
+impl fmt::Display for BayState {
+    fn fmt(&self, f: &mut fmt::Formatter) -> fmt::Result {
+        f.write_str(match self {
+            BayState::Empty => "Empty",
+            BayState::Inserted => "Inserted",
+            BayState::Enabled => "Enabled",
+            BayState::RemovalRequested => "Removal Requested",
+            BayState::RemovalAllowed => "Removal Allowed",
+        })
+    }
+}
+
+/// A reading of a bay's status register.
+///
+/// ```
+/// use dock::{BayState, Status};
+///
+/// let status = Status::try_from(0x39)?;
+/// assert_eq!(status.state(), BayState::RemovalRequested);
+/// assert!(status.removal_requested() && status.has_usb());
+/// assert!(Status::try_from(0x50).is_err());
+/// # Ok::<(), dock::Unnamed>(())
+/// ```
+#[derive(Clone, Copy, PartialEq, Eq, Debug)]
+pub struct Status {
+    bits: u8,
+    state: BayState,
+}
+
+impl TryFrom<u8> for Status {
+    type Error = Unnamed;
+
+    fn try_from(bits: u8) -> Result<Status, Unnamed> {
+        Ok(Status { bits, state: BayState::try_from(bits >> 4 & 7)? })
+    }
+}
+
+impl Status {
+    pub fn bits(self) -> u8 {
+        self.bits
+    }
+
+    pub fn state(self) -> BayState {
+        self.state
     }
 
     pub fn security_lock(self) -> bool {
-        self.0 & 0x80 != 0
+        self.bits & 0x80 != 0
     }
 
     pub fn removal_requested(self) -> bool {
-        self.0 & 0x08 != 0
+        self.bits & 0x08 != 0
     }
 
     pub fn status_changed(self) -> bool {
-        self.0 & 0x04 != 0
+        self.bits & 0x04 != 0
     }
 
     pub fn has_1394(self) -> bool {
-        self.0 & 0x02 != 0
+        self.bits & 0x02 != 0
     }
 
     pub fn has_usb(self) -> bool {
-        self.0 & 0x01 != 0
+        self.bits & 0x01 != 0
     }
 }
 
 impl fmt::Display for Status {
     fn fmt(&self, f: &mut fmt::Formatter) -> fmt::Result {
-        write!(f, "{:02X}h, {}", self.0, self.state())?;
+        write!(f, "{:02X}h, {}", self.bits, self.state)?;
         let named = [
             (self.security_lock(), "security lock engaged"),
             (self.removal_requested(), "removal button pressed"),

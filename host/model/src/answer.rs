@@ -1,8 +1,10 @@
 //! What a call gives back: refusal numbers, replies and the four-byte record.
 
-/// The refusals that a replay from a fresh controller can meet, with the paper's numbers.
+/// The refusals, with the paper's numbers.
 #[derive(Clone, Copy, PartialEq, Eq, Debug)]
 pub enum Refusal {
+    /// The state is not fit, or the bytes are the image of none.
+    UnfitState = 1,
     /// A bit that must be 0 is set.
     StrayBit = 2,
     /// No RESET has come yet, and this is not one.
@@ -58,11 +60,19 @@ pub struct Answer {
 pub const RECORD_BYTES: usize = 4;
 
 impl Answer {
+    /// The answer where there is no fit state to give the word to.
+    pub const UNFIT: Answer = Answer { refusal: Some(Refusal::UnfitState), reply: Reply::None, outputs: 0 };
+
     /// Refusal 4 bits, reply 3, byte 8, outputs 9 and eight zero bits, most significant first.
-    pub fn record(&self) -> [u8; RECORD_BYTES] {
+    pub fn bits(&self) -> u32 {
         let refusal = self.refusal.map_or(0, |refusal| refusal as u32);
         let byte = u32::from(self.reply.byte());
         let outputs = u32::from(self.outputs);
-        (refusal << 28 | self.reply.number() << 25 | byte << 17 | outputs << 8).to_be_bytes()
+        refusal << 28 | self.reply.number() << 25 | byte << 17 | outputs << 8
+    }
+
+    /// The same, as bytes.
+    pub fn record(&self) -> [u8; RECORD_BYTES] {
+        self.bits().to_be_bytes()
     }
 }

@@ -4,10 +4,10 @@
 const N1394: u8 = 8;
 const NUSB: u8 = 4;
 const NREMREQ: u8 = 2;
-const NSL: u8 = 1;
+pub(crate) const NSL: u8 = 1;
 
 const PRESENCE: u8 = N1394 | NUSB;
-const DEBOUNCED: [u8; 3] = [N1394, NUSB, NREMREQ];
+pub(crate) const DEBOUNCED: [u8; 3] = [N1394, NUSB, NREMREQ];
 const ANY_DEBOUNCED: u8 = N1394 | NUSB | NREMREQ;
 
 /// A level is accepted once it has differed for this many ticks.
@@ -17,7 +17,7 @@ const SETTLED_TICKS: u8 = 10;
 const LIT_PHASES: u8 = 100;
 
 #[derive(Clone, Copy, PartialEq, Eq, Debug)]
-enum State {
+pub(crate) enum State {
     Empty,
     Inserted,
     Enabled,
@@ -26,15 +26,20 @@ enum State {
 }
 
 impl State {
-    /// The state that a request asks for; 0 and 5 to 7 ask for none.
-    fn requested(request: u8) -> Option<State> {
-        match request {
+    pub(crate) fn of_number(number: u8) -> Option<State> {
+        match number {
+            0 => Some(State::Empty),
             1 => Some(State::Inserted),
             2 => Some(State::Enabled),
             3 => Some(State::RemovalRequested),
             4 => Some(State::RemovalAllowed),
             _ => None,
         }
+    }
+
+    /// The state that a request asks for; 0 and 5 to 7 ask for none.
+    fn requested(request: u8) -> Option<State> {
+        State::of_number(request).filter(|&state| state != State::Empty)
     }
 
     /// Whether the removal button means anything here.
@@ -45,25 +50,26 @@ impl State {
 
 /// The control bits of BCER, apart from the request.
 #[derive(Clone, Copy, Default, PartialEq, Eq, Debug)]
-struct Control {
-    lock: bool,
-    remreq_enable: bool,
-    devstschg_enable: bool,
-    remevtwak_enable: bool,
-    power: bool,
+pub(crate) struct Control {
+    pub(crate) lock: bool,
+    pub(crate) remreq_enable: bool,
+    pub(crate) devstschg_enable: bool,
+    pub(crate) remevtwak_enable: bool,
+    pub(crate) power: bool,
 }
 
+/// The accepted levels are of the three debounced inputs; nSL has none.
 #[derive(Clone, PartialEq, Eq, Debug)]
 pub struct Bay {
-    levels: u8,
-    accepted: u8,
-    counts: [u8; DEBOUNCED.len()],
-    state: State,
-    remreq_status: bool,
-    devstschg: bool,
-    request: u8,
-    control: Control,
-    pulse: u8,
+    pub(crate) levels: u8,
+    pub(crate) accepted: u8,
+    pub(crate) counts: [u8; DEBOUNCED.len()],
+    pub(crate) state: State,
+    pub(crate) remreq_status: bool,
+    pub(crate) devstschg: bool,
+    pub(crate) request: u8,
+    pub(crate) control: Control,
+    pub(crate) pulse: u8,
 }
 
 impl Bay {
@@ -71,7 +77,7 @@ impl Bay {
     pub fn reset(levels: u8, lock: bool) -> Bay {
         let mut bay = Bay {
             levels,
-            accepted: levels,
+            accepted: levels & ANY_DEBOUNCED,
             counts: [0; DEBOUNCED.len()],
             state: State::Empty,
             remreq_status: false,

@@ -12,27 +12,32 @@ const PULSE_TICKS: [u8; 4] = [12, 50, 100, 200];
 /// The address byte for writing at SMB_A 0.
 const BASE_ADDRESS: u8 = 0x90;
 
+/// The straps: two address bits, then these.
+const LOCK_DEF: u8 = 2;
+const LOCK_MODE: u8 = 1;
+
 const DBCCR: u8 = 0x0C;
 const BSTR: [u8; 2] = [0x10, 0x18];
 const BCER: [u8; 2] = [0x14, 0x1C];
 const LETR: u8 = 0x40;
 
-const DBCCR_BITS: u8 = 0x13;
+const SECLOCK: u8 = 0x10;
 const BAY_COUNT_BITS: u8 = 0x03;
 const LETR_BITS: u8 = 0x03;
 
-/// The whole controller. A fresh one waits for its first RESET.
+/// The whole controller. A fresh one waits for its first RESET. Its fields are those of the paper and no others, so
+/// that it can be in every state that the paper calls fit, also in one that no list of words leads to.
 #[derive(Clone, PartialEq, Eq, Debug)]
 pub struct Controller {
-    started: bool,
-    write_address: u8,
-    lock_pulses: bool,
-    command: Command,
-    capabilities: u8,
-    capabilities_written: bool,
-    lock_time: u8,
-    phase: u8,
-    bays: [Bay; 2],
+    pub(crate) started: bool,
+    pub(crate) straps: u8,
+    pub(crate) command: Command,
+    pub(crate) security_lock: bool,
+    pub(crate) bay_count: u8,
+    pub(crate) capabilities_written: bool,
+    pub(crate) lock_time: u8,
+    pub(crate) phase: u8,
+    pub(crate) bays: [Bay; 2],
 }
 
 impl Default for Controller {
@@ -45,10 +50,10 @@ impl Controller {
     pub fn new() -> Controller {
         Controller {
             started: false,
-            write_address: BASE_ADDRESS,
-            lock_pulses: false,
+            straps: 0,
             command: Command::Idle,
-            capabilities: 0,
+            security_lock: false,
+            bay_count: 0,
             capabilities_written: false,
             lock_time: 0,
             phase: 0,
@@ -83,15 +88,22 @@ impl Controller {
     }
 
     fn reset(straps: u8, levels: u8) -> Controller {
-        let lock_pulses = straps & 1 != 0;
-        let lock = !lock_pulses && straps & 2 != 0;
+        let lock = straps & (LOCK_DEF | LOCK_MODE) == LOCK_DEF;
         Controller {
             started: true,
-            write_address: BASE_ADDRESS + 2 * (straps >> 2),
-            lock_pulses,
+            straps,
             bays: [Bay::reset(levels >> 4, lock), Bay::reset(levels & 0x0F, lock)],
             ..Controller::new()
         }
+    }
+
+    /// The own address byte for writing; the one for reading is one more.
+    pub fn write_address(&self) -> u8 {
+        BASE_ADDRESS + 2 * (self.straps >> 2)
+    }
+
+    fn lock_pulses(&self) -> bool {
+        self.straps & LOCK_MODE != 0
     }
 
     fn stop(&mut self) {
@@ -104,11 +116,13 @@ impl Controller {
     /// A byte goes on with the command or ends it, and is acknowledged exactly in the first case.
     fn byte(&mut self, value: u8) -> Reply {
         self.command = match self.command {
-            Command::Opened if value == self.write_address => Command::Addressed,
+            Command::Opened if value == self.write_address() => Command::Addressed,
             Command::Addressed => Command::Register(value),
             Command::Register(register) => Command::Data { register, value },
             // The value is fixed here; what the pins do before the TAKE no longer matters.
-            Command::Restarted(register) if value == self.write_address + 1 => Command::Driving(self.reading(register)),
+            Command::Restarted(register) if value == self.write_address() + 1 => {
+                Command::Driving(self.reading(register))
+            }
             _ => Command::Idle,
         };
         if self.command == Command::Idle {
@@ -128,7 +142,7 @@ impl Controller {
     }
 
     fn bay1_closed(&self) -> bool {
-        self.capabilities & BAY_COUNT_BITS == 1
+        self.bay_count == 1
     }
 
     fn open_bays(&self) -> &[Bay] {
@@ -153,6 +167,11 @@ impl Controller {
         self.phase = (self.phase + 1) % PHASES;
     }
 
+    /// The levels as last sampled, bay 0's above bay 1's.
+    pub fn levels(&self) -> u8 {
+        self.bays[0].levels << 4 | self.bays[1].levels
+    }
+
     /// What a register reads; before the first RESET, 0.
     pub fn reading(&self, address: u8) -> u8 {
         if !self.started {
@@ -162,10 +181,16 @@ impl Controller {
             0x00 => 0x55,
             0x01 => 0x10,
             0x04 => 0x01,
-            DBCCR => self.capabilities,
+            DBCCR => self.capabilities(),
             LETR => self.lock_time,
             _ => self.bay_reading(address),
         }
+    }
+
+    /// DBCCR.
+    fn capabilities(&self) -> u8 {
+        let security_lock = if self.security_lock { SECLOCK } else { 0 };
+        security_lock | self.bay_count
     }
 
     fn bay_reading(&self, address: u8) -> u8 {
@@ -194,14 +219,15 @@ impl Controller {
             return;
         }
         self.capabilities_written = true;
-        self.capabilities = value & DBCCR_BITS;
+        self.security_lock = value & SECLOCK != 0;
+        self.bay_count = value & BAY_COUNT_BITS;
         if self.bay1_closed() {
             self.bays[1] = Bay::empty();
         }
     }
 
     fn write_bay(&mut self, address: u8, value: u8) {
-        let pulse = if self.lock_pulses { PULSE_TICKS[usize::from(self.lock_time)] } else { 0 };
+        let pulse = if self.lock_pulses() { PULSE_TICKS[usize::from(self.lock_time)] } else { 0 };
         for (index, bay) in self.open_bays_mut().iter_mut().enumerate() {
             if address == BSTR[index] {
                 bay.write_status(value);
@@ -219,7 +245,7 @@ impl Controller {
         }
         let mut outputs = 0;
         for (bay, place) in self.open_bays().iter().zip([5, 1]) {
-            outputs |= bay.outputs(self.lock_pulses, self.phase) << place;
+            outputs |= bay.outputs(self.lock_pulses(), self.phase) << place;
             outputs |= u16::from(bay.interrupts());
         }
         outputs

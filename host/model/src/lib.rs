@@ -20,9 +20,11 @@ mod bay;
 mod bus;
 mod controller;
 mod event;
+mod image;
 pub mod numbers;
 
 pub use answer::{Answer, Refusal, Reply, RECORD_BYTES};
-pub use batch::{replay, replayed, MOST_WORDS};
+pub use batch::MOST_WORDS;
 pub use controller::Controller;
 pub use event::{pack, unpack, Event};
+pub use image::{is_image, STATE_BYTES};

@@ -10,45 +10,28 @@ pub fn answer(result: Result<u16, Refusal>) -> u32 {
     }
 }
 
+/// From a fresh controller.
 pub fn replay(words: &[u16], records: &mut [u8]) -> u32 {
-    answer(crate::replay(words, records).map(|count| count as u16))
-}
-
-pub fn reading(words: &[u16], address: u8) -> u32 {
-    answer(crate::replayed(words).map(|dock| u16::from(dock.reading(address))))
-}
-
-pub fn outputs(words: &[u16]) -> u32 {
-    answer(crate::replayed(words).as_ref().map(Controller::outputs).map_err(|&refusal| refusal))
+    answer(Controller::new().batch(words, records).map(|count| count as u16))
 }
 
 pub fn pack(kind: u8, first: u8, second: u8) -> u32 {
     answer(event(kind, first, second).ok_or(Refusal::StrayBit).and_then(crate::pack))
 }
 
-/// With a layout of its own: refusal, kind and two numbers, eight bits each.
+/// The two numbers of the word's event; its kind is in the word itself.
 pub fn unpack(word: u16) -> u32 {
-    match crate::unpack(word) {
-        Some(event) => {
-            let [kind, first, second] = numbers(event);
-            u32::from_be_bytes([0, kind, first, second])
-        }
-        None => (Refusal::StrayBit as u32) << 24,
-    }
+    answer(crate::unpack(word).ok_or(Refusal::StrayBit).map(numbers))
 }
 
-/// Kind, first and second number of an event.
-fn numbers(event: Event) -> [u8; 3] {
-    match event {
-        Event::Start => [0, 0, 0],
-        Event::Stop => [1, 0, 0],
-        Event::Byte(value) => [2, value, 0],
-        Event::Take { ack } => [3, u8::from(ack), 0],
-        Event::Pins(levels) => [4, levels, 0],
-        Event::Tick => [5, 0, 0],
-        Event::Reset { straps, levels } => [6, straps, levels],
-        Event::Timeout => [7, 0, 0],
-    }
+/// First and second number of an event, eight bits each.
+fn numbers(event: Event) -> u16 {
+    u16::from_be_bytes(match event {
+        Event::Byte(number) | Event::Pins(number) => [number, 0],
+        Event::Take { ack } => [u8::from(ack), 0],
+        Event::Reset { straps, levels } => [straps, levels],
+        Event::Start | Event::Stop | Event::Tick | Event::Timeout => [0, 0],
+    })
 }
 
 /// The event that has these numbers, if there is one.

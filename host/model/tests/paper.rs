@@ -3,8 +3,12 @@
 use model::numbers;
 use model::{pack, unpack, Controller, Event, Refusal};
 
-const MODEL: paper::Calls =
-    paper::Calls { name: "model", replay: numbers::replay, reading: numbers::reading, outputs: numbers::outputs };
+const MODEL: paper::Calls = paper::Calls {
+    name: "model",
+    replay: numbers::replay,
+    reading: |words, address| u32::from(Controller::after(words).reading(address)),
+    outputs: |words| u32::from(Controller::after(words).outputs()),
+};
 
 #[test]
 fn every_example_holds() {
@@ -25,6 +29,15 @@ fn every_word_unpacks_to_what_packs_to_it() {
         None => false,
     });
     assert_eq!(accepted.count(), 4 + 256 + 256 + 2 + 4096);
+}
+
+#[test]
+fn the_numbers_of_a_word_leave_its_kind_out() {
+    assert_eq!(numbers::unpack(0x4090), 0x9000);
+    assert_eq!(numbers::unpack(0x6001), 0x0100);
+    assert_eq!(numbers::unpack(0xC5BF), 0x05BF);
+    assert_eq!(numbers::unpack(0xE000), 0);
+    assert_eq!(numbers::unpack(0xE001), 2 << 16);
 }
 
 #[test]

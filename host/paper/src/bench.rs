@@ -56,7 +56,8 @@ fn numbered() -> Vec<Example> {
     ]
 }
 
-/// But for a batch's answer bytes, which stand with the batch, and for a phase of 200, which no call takes.
+/// But for a batch's answer bytes, which stand with the batch, and for a phase of 200, which no words lead to: the
+/// damage test writes it into an image.
 fn others() -> Vec<Example> {
     let two_data_bytes = [R, START, byte(OWN), byte(0x14), byte(0x04), byte(0x04), STOP];
     let acked = || vec![Records(vec![record(0, 1, 0, 0)])];

@@ -2,11 +2,14 @@
 //!
 //!     speed [REPEATS]
 //!
-//! Each time is the median over REPEATS calls (1,001 if not given). A call replays one list into a buffer that was
-//! cleared before it, outside the timed part. All write all records, and the buffers must be equal at the end.
+//! Each time is the median over REPEATS runs (1,001 if not given). A run takes one list from a fresh controller, in one
+//! call or with a call for each word, into a buffer that was cleared before, outside the timed part. All write all
+//! records, and the buffers must be equal at the end.
 
 mod lists;
+mod sides;
 
+use sides::{Side, BATCH, MODEL, MODEL_STEPS, PLAIN, REPLAY, SIDES, STEPS};
 use std::process::ExitCode;
 use std::time::Instant;
 
@@ -15,24 +18,17 @@ const REPEATS: usize = 1_001;
 /// Set by the script that starts this program under an emulator, to the emulator's name.
 const EMULATOR: &str = "DOCK_EMULATOR";
 
-/// Has the table of what was seen on x86-64 itself, which begins with these words.
+/// Has the tables of what was seen on x86-64 itself, each of which begins with these words.
 const README: &str = include_str!("../../README.md");
 const SEEN: &str = "| ns for each event";
 
 const SIZES: [usize; 5] = [1_024, 2_048, 4_096, 8_192, 16_384];
 
-type Replay = fn(&[u16], &mut [u8]) -> u32;
-
-const LIBRARY: usize = 0;
-const PLAIN: usize = 1;
-const MODEL: usize = 2;
-const SIDES: [Replay; 3] = [|words, records| dock::replay(words, records).raw(), plain::replay, model::numbers::replay];
-
-/// One call, in nanoseconds for each word.
-fn time(replay: Replay, words: &[u16], records: &mut [u8]) -> f64 {
+/// One run, in nanoseconds for each word.
+fn time(side: Side, words: &[u16], records: &mut [u8]) -> f64 {
     records.fill(0);
     let begin = Instant::now();
-    let answer = replay(words, records);
+    let answer = side(words, records);
     let nanoseconds = begin.elapsed().as_nanos() as f64;
     assert_eq!(answer as usize, words.len(), "a list of this length is never refused");
     nanoseconds / words.len() as f64
@@ -43,13 +39,13 @@ fn median(times: &mut [f64]) -> f64 {
     times[times.len() / 2]
 }
 
-/// The median of each side. Calls take turns, so that a slow moment of the machine hits all.
+/// The median of each side. They take turns, so that a slow moment of the machine hits all.
 fn medians(words: &[u16], repeats: usize) -> [f64; SIDES.len()] {
     let mut buffers = SIDES.map(|_| vec![0; model::RECORD_BYTES * words.len()]);
     let mut times = SIDES.map(|_| Vec::with_capacity(repeats));
     for _ in 0..repeats {
-        for (side, replay) in SIDES.into_iter().enumerate() {
-            times[side].push(time(replay, words, &mut buffers[side]));
+        for (place, side) in SIDES.into_iter().enumerate() {
+            times[place].push(time(side, words, &mut buffers[place]));
         }
     }
     for buffer in &buffers {
@@ -58,9 +54,9 @@ fn medians(words: &[u16], repeats: usize) -> [f64; SIDES.len()] {
     times.map(|mut of_side| median(&mut of_side))
 }
 
-/// The table of the README with the times on x86-64 itself.
+/// The lines of the README's tables with the times on x86-64 itself.
 fn seen_on_x86_64() -> impl Iterator<Item = &'static str> {
-    README.lines().skip_while(|line| !line.starts_with(SEEN)).take_while(|line| !line.is_empty())
+    README.split("\n\n").filter(|part| part.starts_with(SEEN)).flat_map(str::lines)
 }
 
 fn describe_machine(repeats: usize) {
@@ -73,42 +69,68 @@ fn describe_machine(repeats: usize) {
         }
         Err(_) => println!("architecture: {}, no emulator", architecture),
     }
-    println!("median of {} calls; each answer buffer is cleared before the call, outside the timed part", repeats);
+    println!("median of {} runs; each answer buffer is cleared before the run, outside the timed part", repeats);
 }
 
 fn compare_speeds(repeats: usize) {
-    println!();
-    println!(
-        "{:<36} {:>9} {:>9} {:>9} {:>11} {:>14}",
-        "ns per event, 16,384 events a call", "library", "C, -O3", "model", "library/C", "library/model"
-    );
     let most = SIZES[SIZES.len() - 1];
-    for (name, words) in [
+    let rows = [
         ("ticks", lists::ticks(most)),
         ("bus events (whole writes and reads)", lists::commands(most)),
         ("a realistic mix", lists::mix(most)),
-    ] {
-        let times = medians(&words, repeats);
-        let (library, plain, model) = (times[LIBRARY], times[PLAIN], times[MODEL]);
-        let (to_plain, to_model) = (library / plain, library / model);
-        println!("{:<36} {:>9.2} {:>9.2} {:>9.2} {:>11.2} {:>14.2}", name, library, plain, model, to_plain, to_model);
+    ]
+    .map(|(name, words)| (name, medians(&words, repeats)));
+    compare_batches(&rows);
+    compare_steps(&rows);
+}
+
+type Row = (&'static str, [f64; SIDES.len()]);
+
+/// The library's replay and its batch on a held state, beside the others' replays.
+fn compare_batches(rows: &[Row]) {
+    println!();
+    println!(
+        "{:<36} {:>9} {:>9} {:>9} {:>9} {:>9} {:>12} {:>12}",
+        "ns per event, 16,384 events a call",
+        "replay",
+        "batch",
+        "C, -O3",
+        "model",
+        "replay/C",
+        "replay/model",
+        "batch/replay"
+    );
+    for (name, times) in rows {
+        let (replay, batch, plain, model) = (times[REPLAY], times[BATCH], times[PLAIN], times[MODEL]);
+        print!("{:<36} {:>9.2} {:>9.2} {:>9.2} {:>9.2} ", name, replay, batch, plain, model);
+        println!("{:>9.2} {:>12.2} {:>12.2}", replay / plain, replay / model, batch / replay);
+    }
+}
+
+/// One event in one call: on a held image, and on the model's struct.
+fn compare_steps(rows: &[Row]) {
+    println!();
+    println!("{:<36} {:>9} {:>9} {:>14}", "ns per event, one event a call", "step", "model", "step/model");
+    for (name, times) in rows {
+        let (step, model) = (times[STEPS], times[MODEL_STEPS]);
+        println!("{:<36} {:>9.2} {:>9.2} {:>14.2}", name, step, model, step / model);
     }
 }
 
 /// A batch is linear in its words if the time for each word stays the same.
 fn check_linearity(repeats: usize) {
     println!();
-    println!("{:<36} {:>9} {:>9} {:>9}", "ns per event of the mix, by words", "library", "C, -O3", "model");
+    println!("{:<36} {:>9} {:>9} {:>9}", "ns per event of the mix, by words", "replay", "C, -O3", "model");
     let mut first = None;
     let mut last = 0.0;
     for size in SIZES {
         let times = medians(&lists::mix(size), repeats);
-        println!("{:<36} {:>9.2} {:>9.2} {:>9.2}", size, times[LIBRARY], times[PLAIN], times[MODEL]);
-        first.get_or_insert(times[LIBRARY]);
-        last = times[LIBRARY];
+        println!("{:<36} {:>9.2} {:>9.2} {:>9.2}", size, times[REPLAY], times[PLAIN], times[MODEL]);
+        first.get_or_insert(times[REPLAY]);
+        last = times[REPLAY];
     }
     let growth = last / first.unwrap_or(last);
-    println!("library, 16 times the words: {:.2} times the time for each (1.00 is linear)", growth);
+    println!("replay, 16 times the words: {:.2} times the time for each (1.00 is linear)", growth);
 }
 
 fn main() -> ExitCode {

@@ -34,15 +34,16 @@ pub fn length(random: &mut Random) -> usize {
     }
 }
 
-/// A list of exactly this many words. A command may be cut at the end.
+/// A list of exactly this many words, for a fresh controller. A command may be cut at the end.
 pub fn list(random: &mut Random, length: usize) -> Vec<u16> {
-    let mut writer = Writer { random, words: Vec::with_capacity(length + 256), own: 0x90, levels: 0xFF };
+    let mut writer = Writer::new(random, 0x90, 0xFF);
     writer.begin();
-    while writer.words.len() < length {
-        writer.scene();
-    }
-    writer.words.truncate(length);
-    writer.words
+    writer.scenes(length)
+}
+
+/// A list of exactly this many words, for a controller that has this address byte for writing and saw these levels.
+pub fn onward(random: &mut Random, own: u8, levels: u8, length: usize) -> Vec<u16> {
+    Writer::new(random, own, levels).scenes(length)
 }
 
 struct Writer<'a> {
@@ -54,6 +55,18 @@ struct Writer<'a> {
 }
 
 impl Writer<'_> {
+    fn new(random: &mut Random, own: u8, levels: u8) -> Writer<'_> {
+        Writer { random, words: Vec::new(), own, levels }
+    }
+
+    fn scenes(mut self, length: usize) -> Vec<u16> {
+        while self.words.len() < length {
+            self.scene();
+        }
+        self.words.truncate(length);
+        self.words
+    }
+
     /// Mostly a RESET at once; sometimes words that come before any.
     fn begin(&mut self) {
         if self.random.one_in(8) {

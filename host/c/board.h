@@ -1,0 +1,32 @@
+/* What the firmware asks of a board. On a chip each of these is a few lines; board.c stands in for all of them. */
+#ifndef BOARD_H
+#define BOARD_H
+
+#include <stdint.h>
+
+/* As wired: SMB_A1, SMB_A0, LOCK_DEF, LOCK_MODE, so at most 15. Above that the firmware keeps everything off. */
+uint8_t board_straps(void);
+
+/* The eight inputs as they are now: n1394, nUSB, nREMREQ, nSL of bay 0, then of bay 1. */
+uint8_t board_levels(void);
+
+/* Sets the nine output pins, bit by bit as dock.h names them. */
+void board_drive(uint16_t outputs);
+
+/* The answer to a BYTE: the bus, which was held at the ninth clock, goes on with this bit. */
+void board_acknowledge(int ack);
+
+/* The answer to a TAKE: the bus, which was held before the first clock, goes on with these bits; FFh drives nothing. */
+void board_send(uint8_t byte);
+
+/* Memory that keeps its bytes without power. A byte is written whole or not at all. */
+uint8_t board_memory_read(unsigned at);
+void board_memory_write(unsigned at, uint8_t byte);
+
+/* Turns the interrupts on. */
+void board_listen(void);
+
+/* Sleeps until an interrupt came. On a chip this is never 0: it tells that the power is gone. */
+int board_wait(void);
+
+#endif

@@ -1,0 +1,357 @@
+/* Checks the calls from C: what they answer, and that they touch nothing else. Every buffer stands between guard bytes,
+ * and the whole of it is compared. Valid as C99 and as C++11. What the calls do with events is the differential test's
+ * to compare; here it is the boundary. */
+#include "dock.h"
+
+#include <stdio.h>
+#include <string.h>
+
+#define GUARD 16u
+#define PAINT 0xA5
+#define ROOM (DOCK_MOST_WORDS * DOCK_RECORD_BYTES)
+#define LENGTHS (2u * DOCK_STATE_BYTES)
+#define COUNT(list) (sizeof(list) / sizeof((list)[0]))
+
+static unsigned long checks, failures;
+
+static void check(int good, const char *what, int line) {
+    checks++;
+    if (!good) {
+        failures++;
+        printf("calls.c:%d: not so: %s\n", line, what);
+    }
+}
+#define CHECK(good) check((good), #good, __LINE__)
+
+/* A buffer with guards, and a copy to hold it against. */
+struct guarded {
+    uint8_t bytes[GUARD + ROOM + GUARD];
+    uint8_t copy[GUARD + ROOM + GUARD];
+};
+
+static struct guarded state_buffer, record_buffer;
+static uint8_t *const state = state_buffer.bytes + GUARD;
+static uint8_t *const records = record_buffer.bytes + GUARD;
+static uint16_t words[DOCK_MOST_WORDS + 1];
+
+static void paint(struct guarded *buffer) { memset(buffer->bytes, PAINT, sizeof buffer->bytes); }
+static void remember(struct guarded *buffer) { memcpy(buffer->copy, buffer->bytes, sizeof buffer->bytes); }
+
+/* Whether nothing changed since it was remembered but the bytes from the buffer's start up to this length. */
+static int only_changed(const struct guarded *buffer, size_t length) {
+    return memcmp(buffer->bytes, buffer->copy, GUARD) == 0 &&
+           memcmp(buffer->bytes + GUARD + length, buffer->copy + GUARD + length, ROOM + GUARD - length) == 0;
+}
+
+static void begin(void) {
+    paint(&state_buffer);
+    paint(&record_buffer);
+    CHECK(dock_begin(state, DOCK_STATE_BYTES) == 0);
+    remember(&state_buffer);
+    remember(&record_buffer);
+}
+
+static int untouched(void) { return only_changed(&state_buffer, 0) && only_changed(&record_buffer, 0); }
+
+/* ---- a story with everything in it: refused words, both forms of a command, pins and ticks inside one ---- */
+
+static const uint16_t STORY[] = {
+    0xA000,                                                                 /* a TICK before any RESET: 3 */
+    0xC5BF,                                                                 /* RESET, straps 5, USB device in bay 0 */
+    0x0001,                                                                 /* a stray bit: 2 */
+    0x0000, 0x4092, 0x4014, 0x40AD, 0x2000,                                 /* BCER of bay 0 */
+    0x0000, 0x4092, 0x4010, 0x809F, 0xA000, 0xA000, 0x4004, 0x2000,         /* BSTR, with a press inside */
+    0xFFFF, 0xA000, 0xA000, 0xA000, 0xA000, 0xA000, 0xA000, 0xA000, 0xA000, /* .. which is accepted at the last */
+    0x0000, 0x4092, 0x400C, 0x4012, 0x2000,                                 /* DBCCR */
+    0x0000, 0x4092, 0x4040, 0x4002, 0x2000,                                 /* LETR */
+    0x0000, 0x4092, 0x4010, 0x0000, 0x4093, 0x6001,                         /* a read */
+    0x80DF, 0xA000, 0x0000, 0x4092, 0x4014, 0x4081,                         /* a write that is still open */
+};
+
+static void test_version(void) {
+    CHECK(dock_version() == DOCK_VERSION);
+    CHECK(dock_fits_header());
+    CHECK(dock_refusal(dock_version()) == DOCK_ACCEPTED);
+}
+
+static void test_begin(void) {
+    begin();
+    CHECK(state[DOCK_AT_VERSION] == DOCK_LAYOUT);
+    CHECK(state[DOCK_AT_STARTED] == 0);
+    memset(state_buffer.copy, PAINT, sizeof state_buffer.copy);
+    CHECK(only_changed(&state_buffer, DOCK_STATE_BYTES));
+    CHECK(dock_outputs(state, DOCK_STATE_BYTES) == 0);
+    for (unsigned address = 0; address < 256; address++) {
+        CHECK(dock_reading(state, DOCK_STATE_BYTES, (uint8_t)address) == 0);
+    }
+}
+
+/* A state of another length is refused by every call, and neither read nor written: here NULL serves as well. */
+static void refuse_length(uint8_t *bytes, size_t length) {
+    CHECK(dock_begin(bytes, length) == 0x00010000u);
+    CHECK(dock_step(bytes, length, 0xC0BF) == 0x10000000u);
+    CHECK(dock_batch(bytes, length, words, 1, records, DOCK_RECORD_BYTES) == 0x00010000u);
+    CHECK(dock_reading(bytes, length, 0x00) == 0x00010000u);
+    CHECK(dock_outputs(bytes, length) == 0x00010000u);
+    CHECK(untouched());
+}
+
+static void test_lengths(void) {
+    words[0] = 0xC0BF;
+    for (size_t length = 0; length <= LENGTHS; length++) {
+        if (length == DOCK_STATE_BYTES) {
+            continue;
+        }
+        begin();
+        refuse_length(state, length);
+        refuse_length(NULL, length);
+    }
+}
+
+static void test_empty_lists(void) {
+    begin();
+    CHECK(dock_step(state, DOCK_STATE_BYTES, 0xC0BF) == 0);
+    remember(&state_buffer);
+    CHECK(dock_batch(state, DOCK_STATE_BYTES, NULL, 0, NULL, 0) == 0);
+    CHECK(dock_batch(state, DOCK_STATE_BYTES, words, 0, records, 0) == 0);
+    CHECK(dock_batch(state, DOCK_STATE_BYTES, NULL, 0, records, ROOM) == 0);
+    CHECK(dock_replay(NULL, 0, NULL, 0) == 0);
+    CHECK(dock_replay(words, 0, records, 0) == 0);
+    CHECK(dock_replay(NULL, 0, records, ROOM) == 0);
+    CHECK(dock_batch(NULL, 0, NULL, 0, NULL, 0) == 0x00010000u);
+    CHECK(dock_batch(state, DOCK_STATE_BYTES, words, 1, NULL, 0) == 0x00040000u);
+    CHECK(dock_replay(words, 1, NULL, 0) == 0x00040000u);
+    CHECK(untouched());
+}
+
+/* Refusals 1, 5 and 4, in that order, and a batch of the most words that is taken. */
+static void test_order(void) {
+    for (size_t i = 0; i < COUNT(words); i++) {
+        words[i] = i == 0 ? 0xC0BF : 0xA000;
+    }
+    begin();
+    CHECK(dock_batch(state, DOCK_STATE_BYTES, words, DOCK_MOST_WORDS + 1, records, 3) == 0x00050000u);
+    CHECK(dock_replay(words, DOCK_MOST_WORDS + 1, records, 3) == 0x00050000u);
+    CHECK(dock_batch(state, DOCK_STATE_BYTES, words, DOCK_MOST_WORDS, records, ROOM - 1) == 0x00040000u);
+    CHECK(dock_replay(words, DOCK_MOST_WORDS, records, ROOM - 1) == 0x00040000u);
+    CHECK(dock_batch(state, DOCK_STATE_BYTES, words, 3, records, 11) == 0x00040000u);
+    CHECK(untouched());
+    state[DOCK_AT_PHASE] = 200;
+    remember(&state_buffer);
+    CHECK(dock_batch(state, DOCK_STATE_BYTES, words, DOCK_MOST_WORDS + 1, records, 3) == 0x00010000u);
+    CHECK(dock_batch(state, DOCK_STATE_BYTES, words, 1, records, 3) == 0x00010000u);
+    CHECK(untouched());
+    begin();
+    CHECK(dock_batch(state, DOCK_STATE_BYTES, words, 3, records, 12) == 3);
+    CHECK(only_changed(&state_buffer, DOCK_STATE_BYTES));
+    CHECK(only_changed(&record_buffer, 12));
+    CHECK(dock_batch(state, DOCK_STATE_BYTES, words, DOCK_MOST_WORDS, records, ROOM) == DOCK_MOST_WORDS);
+    CHECK(only_changed(&record_buffer, ROOM));
+}
+
+/* One byte of an image changed so that it is refused, by every call, with nothing touched. */
+static void refuse_byte(size_t at, uint8_t value) {
+    uint8_t before = state[at];
+    state[at] = value;
+    remember(&state_buffer);
+    CHECK(dock_step(state, DOCK_STATE_BYTES, 0xC0BF) == 0x10000000u);
+    CHECK(dock_batch(state, DOCK_STATE_BYTES, STORY, 1, records, ROOM) == 0x00010000u);
+    CHECK(dock_batch(state, DOCK_STATE_BYTES, NULL, 0, NULL, 0) == 0x00010000u);
+    CHECK(dock_reading(state, DOCK_STATE_BYTES, 0x00) == 0x00010000u);
+    CHECK(dock_outputs(state, DOCK_STATE_BYTES) == 0x00010000u);
+    CHECK(untouched());
+    state[at] = before;
+}
+
+/* Byte by byte, the largest value that the header calls fit; those with the progress are the test's below. */
+static uint8_t most_at(size_t at) {
+    static const uint8_t in_bay[6] = {9, 9, 9, 4, 4, 200};
+    if (at < DOCK_AT_STRAPS) {
+        return 1;
+    }
+    if (at >= DOCK_AT_NUMBERS_0) {
+        return in_bay[(at - DOCK_AT_NUMBERS_0) % COUNT(in_bay)];
+    }
+    return (uint8_t)(at == DOCK_AT_STRAPS ? 15 : at == DOCK_AT_PHASE ? 199 : 3);
+}
+
+static void test_damage(void) {
+    begin();
+    CHECK(dock_step(state, DOCK_STATE_BYTES, 0xC0BF) == 0);
+    remember(&record_buffer);
+    for (unsigned version = 0; version < 256; version++) {
+        if (version != DOCK_LAYOUT) {
+            refuse_byte(DOCK_AT_VERSION, (uint8_t)version);
+        }
+    }
+    for (size_t at = DOCK_AT_STARTED; at < DOCK_AT_PROGRESS; at++) {
+        uint8_t before = state[at];
+        state[at] = most_at(at);
+        CHECK(dock_refusal(dock_outputs(state, DOCK_STATE_BYTES)) == DOCK_ACCEPTED);
+        state[at] = before;
+        for (unsigned value = most_at(at) + 1u; value < 256; value++) {
+            refuse_byte(at, (uint8_t)value);
+        }
+    }
+    for (unsigned progress = 7; progress < 256; progress++) {
+        refuse_byte(DOCK_AT_PROGRESS, (uint8_t)progress);
+    }
+}
+
+/* The two bytes behind the progress are free where it uses them, and 0 elsewhere. */
+static void test_progress(void) {
+    begin();
+    for (unsigned progress = 0; progress <= 6; progress++) {
+        state[DOCK_AT_PROGRESS] = (uint8_t)progress;
+        for (size_t at = DOCK_AT_FIRST; at <= DOCK_AT_SECOND; at++) {
+            if (at == DOCK_AT_FIRST ? progress >= 3 : progress == 4) {
+                state[at] = 0xFF;
+                CHECK(dock_refusal(dock_outputs(state, DOCK_STATE_BYTES)) == DOCK_ACCEPTED);
+                state[at] = 0;
+            } else {
+                refuse_byte(at, 1);
+                refuse_byte(at, 0xFF);
+            }
+        }
+    }
+}
+
+/* Word by word, in one batch, and replayed: the same records and the same state; outputs and, at a TAKE, the byte are
+ * those that the questions tell; a refused word leaves the state. */
+static void test_story(void) {
+    static uint8_t by_step[DOCK_STATE_BYTES], replayed[COUNT(STORY) * DOCK_RECORD_BYTES];
+    begin();
+    CHECK(dock_batch(state, DOCK_STATE_BYTES, STORY, COUNT(STORY), records, ROOM) == COUNT(STORY));
+    CHECK(only_changed(&state_buffer, DOCK_STATE_BYTES));
+    CHECK(only_changed(&record_buffer, sizeof replayed));
+    CHECK(dock_replay(STORY, COUNT(STORY), replayed, sizeof replayed) == COUNT(STORY));
+    CHECK(memcmp(records, replayed, sizeof replayed) == 0);
+    CHECK(dock_begin(by_step, sizeof by_step) == 0);
+    for (size_t i = 0; i < COUNT(STORY); i++) {
+        uint8_t before[DOCK_STATE_BYTES];
+        uint16_t read = dock_value(dock_reading(by_step, sizeof by_step, 0x10));
+        uint32_t record;
+        memcpy(before, by_step, sizeof before);
+        record = dock_step(by_step, sizeof by_step, STORY[i]);
+        CHECK(record == dock_record(records + DOCK_RECORD_BYTES * i));
+        CHECK(dock_outputs(by_step, sizeof by_step) == dock_record_outputs(record));
+        CHECK(dock_record_refusal(record) == DOCK_ACCEPTED || memcmp(before, by_step, sizeof before) == 0);
+        CHECK(dock_kind(STORY[i]) != DOCK_TAKE || dock_record_byte(record) == read);
+    }
+    CHECK(memcmp(by_step, state, sizeof by_step) == 0);
+    CHECK(dock_record_refusal(dock_record(records)) == DOCK_NOT_STARTED);
+    CHECK(dock_record_refusal(dock_record(records + 2 * DOCK_RECORD_BYTES)) == DOCK_STRAY_BIT);
+}
+
+/* What the story leaves, field by field, so that each name stands for the byte that it says. */
+static void test_fields(void) {
+    static const uint8_t flags_0[14] = {1, 1, 0, 1, 0, 0, 1, 1, 0, 1, 1, 1, 0, 1};
+    const uint8_t *flags = state + DOCK_AT_BAY_FLAGS(0);
+    const uint8_t *numbers = state + DOCK_AT_BAY_NUMBERS(0);
+    begin();
+    CHECK(dock_batch(state, DOCK_STATE_BYTES, STORY, COUNT(STORY), records, ROOM) == COUNT(STORY));
+    CHECK(state[DOCK_AT_STARTED] == 1 && state[DOCK_AT_DBCCR_WRITTEN] == 1 && state[DOCK_AT_SECLOCK] == 1);
+    CHECK(state[DOCK_AT_STRAPS] == 5 && state[DOCK_AT_BAY_COUNT] == 2 && state[DOCK_AT_LOCK_TIME] == 2);
+    CHECK(state[DOCK_AT_PHASE] == 11);
+    CHECK(memcmp(flags, flags_0, sizeof flags_0) == 0);
+    CHECK(flags[DOCK_BAY_LEVELS + 1] == 1 && flags[DOCK_BAY_ACCEPTED + 1] == 0 && flags[DOCK_BAY_N_SL] == 1);
+    CHECK(flags[DOCK_BAY_REMREQ_STS] == 1 && flags[DOCK_BAY_DEVSTSCHG] == 0 && flags[DOCK_BAY_LOCK_CTL] == 1);
+    CHECK(flags[DOCK_BAY_REMREQ_EN] == 1 && flags[DOCK_BAY_DEVSTSCHG_EN] == 1);
+    CHECK(flags[DOCK_BAY_REMEVTWAK_EN] == 0 && flags[DOCK_BAY_PWR_CTL] == 1);
+    CHECK(numbers[DOCK_BAY_COUNTS] == 0 && numbers[DOCK_BAY_COUNTS + 1] == 1 && numbers[DOCK_BAY_COUNTS + 2] == 0);
+    CHECK(numbers[DOCK_BAY_STATE] == 3 && numbers[DOCK_BAY_REQUEST] == 2 && numbers[DOCK_BAY_PULSE] == 0);
+    CHECK(state[DOCK_AT_PROGRESS] == 4 && state[DOCK_AT_FIRST] == 0x14 && state[DOCK_AT_SECOND] == 0x81);
+    /* The STOP of that write; then LOCK_CTL from 1 to 0 in LOCK_MODE 1 starts a pulse of LETR's 100 ticks. */
+    dock_step(state, DOCK_STATE_BYTES, 0x2000);
+    dock_step(state, DOCK_STATE_BYTES, 0x0000);
+    dock_step(state, DOCK_STATE_BYTES, 0x4092);
+    dock_step(state, DOCK_STATE_BYTES, 0x4014);
+    dock_step(state, DOCK_STATE_BYTES, 0x4002);
+    dock_step(state, DOCK_STATE_BYTES, 0x2000);
+    CHECK(flags[DOCK_BAY_REMEVTWAK_EN] == 1 && flags[DOCK_BAY_LOCK_CTL] == 0 && numbers[DOCK_BAY_PULSE] == 100);
+    /* Bay 1 has the same fields behind its own two offsets. */
+    dock_step(state, DOCK_STATE_BYTES, 0xC3FB);
+    flags = state + DOCK_AT_BAY_FLAGS(1);
+    CHECK(flags[DOCK_BAY_LEVELS + 1] == 0 && flags[DOCK_BAY_DEVSTSCHG] == 1 && flags[DOCK_BAY_LOCK_CTL] == 0);
+    dock_step(state, DOCK_STATE_BYTES, 0x80FF);
+    dock_step(state, DOCK_STATE_BYTES, 0xA000);
+    CHECK(state[DOCK_AT_BAY_NUMBERS(1) + DOCK_BAY_COUNTS + 1] == 1);
+}
+
+/* P1 to P3 of document 01, and its last record. */
+static void test_paper(void) {
+    static const uint16_t bcer[] = {0x0000, 0x4090, 0x4014, 0x4004, 0x2000};
+    static const uint16_t read[] = {0x0000, 0x4090, 0x4010, 0x0000, 0x4091, 0x6000};
+    static const uint8_t last[4] = {0x06, 0x2A, 0x41, 0x00};
+    uint32_t record = 0;
+    begin();
+    CHECK(dock_step(state, DOCK_STATE_BYTES, 0xC0BF) == 0);
+    CHECK(dock_reading(state, DOCK_STATE_BYTES, 0x10) == 0x05);
+    for (size_t i = 0; i < COUNT(bcer); i++) {
+        dock_step(state, DOCK_STATE_BYTES, bcer[i]);
+    }
+    CHECK(dock_reading(state, DOCK_STATE_BYTES, 0x10) == 0x15);
+    for (size_t i = 0; i < COUNT(read); i++) {
+        record = dock_step(state, DOCK_STATE_BYTES, read[i]);
+    }
+    CHECK(record == dock_record(last) && record == 0x062A4100u);
+    CHECK(dock_record_refusal(record) == DOCK_ACCEPTED && dock_record_reply(record) == DOCK_DRIVEN);
+    CHECK(dock_record_byte(record) == 0x15 && dock_record_outputs(record) == (DOCK_GREEN_0 | DOCK_INTERRUPT));
+}
+
+/* Saved in the middle of the story by a copy, and put back into bytes that held something else. */
+static void test_save(void) {
+    static uint8_t saved[DOCK_STATE_BYTES], end[DOCK_STATE_BYTES];
+    for (size_t cut = 0; cut <= COUNT(STORY); cut++) {
+        begin();
+        CHECK(dock_batch(state, DOCK_STATE_BYTES, STORY, cut, records, ROOM) == cut);
+        memcpy(saved, state, sizeof saved);
+        dock_batch(state, DOCK_STATE_BYTES, STORY + cut, COUNT(STORY) - cut, records, ROOM);
+        memcpy(end, state, sizeof end);
+        memset(state, PAINT, DOCK_STATE_BYTES);
+        memcpy(state, saved, sizeof saved);
+        CHECK(dock_batch(state, DOCK_STATE_BYTES, STORY + cut, COUNT(STORY) - cut, records, ROOM) ==
+              COUNT(STORY) - cut);
+        CHECK(memcmp(state, end, sizeof end) == 0);
+    }
+}
+
+/* Every word, by the bits that document 01 leaves its kind. */
+static void test_words(void) {
+    static const uint16_t data[8] = {0x0000, 0x0000, 0x00FF, 0x0001, 0x00FF, 0x0000, 0x0FFF, 0x0000};
+    unsigned taken = 0;
+    for (unsigned long number = 0; number <= 0xFFFF; number++) {
+        uint16_t word = (uint16_t)number;
+        uint16_t low = (uint16_t)(word & 0x1FFF);
+        uint32_t unpacked = dock_unpack(word);
+        if ((low & ~data[dock_kind(word)]) != 0) {
+            CHECK(unpacked == 0x00020000u);
+            continue;
+        }
+        taken++;
+        CHECK(unpacked == (dock_kind(word) == DOCK_RESET ? low : (uint32_t)low << 8));
+        CHECK(dock_pack(dock_kind(word), dock_first(unpacked), dock_second(unpacked)) == word);
+    }
+    CHECK(taken == 4614);
+    CHECK(dock_pack(DOCK_RESET, 16, 0) == 0x00060000u);
+    CHECK(dock_pack(DOCK_TAKE, 2, 0) == 0x00020000u);
+    CHECK(dock_pack(DOCK_TICK, 0, 1) == 0x00020000u);
+    CHECK(dock_pack(8, 0, 0) == 0x00020000u);
+}
+
+int main(void) {
+    test_version();
+    test_begin();
+    test_lengths();
+    test_empty_lists();
+    test_order();
+    test_damage();
+    test_progress();
+    test_story();
+    test_fields();
+    test_paper();
+    test_save();
+    test_words();
+    printf("calls: %lu checks, %lu failed\n", checks, failures);
+    return failures != 0;
+}

@@ -1,0 +1,156 @@
+/* A dock's main loop: words from the ring, one step each, then the bus, the pins and the saved state. */
+#include "firmware.h"
+
+#include "board.h"
+#include "store.h"
+
+#include <string.h>
+
+/* Neither is ever refused. */
+static uint16_t timeout_word(void) { return dock_value(dock_pack(DOCK_TIMEOUT, 0, 0)); }
+static uint16_t levels_word(void) { return dock_value(dock_pack(DOCK_PINS, board_levels(), 0)); }
+
+/* A RESET is never just lost: the loop makes up for it, and what comes after it waits for that. */
+int firmware_event(struct firmware *dock, uint8_t kind, uint8_t first, uint8_t second) {
+    uint32_t packed = dock_pack(kind, first, second);
+    if (dock_refusal(packed) == DOCK_ACCEPTED && ring_put(&dock->waiting, dock_value(packed))) {
+        return 1;
+    }
+    if (kind == DOCK_RESET) {
+        dock->reset_lost = 1;
+        dock->waiting.lost = 1;
+    }
+    return 0;
+}
+
+/* ---- one event ---- */
+
+/* The host waits for this, so it comes first. A word that was refused has no ACK and drives nothing.
+ * A stand-in: the TAKE's own record has the byte, so the bus is held until the loop comes to it. Once the library tells
+ * the byte before the TAKE, the bus can have it ready. The TAKE is put before the host's ACK is known; its bit changes
+ * nothing. */
+static void answer_bus(uint16_t word, uint32_t record) {
+    if (dock_kind(word) == DOCK_BYTE) {
+        board_acknowledge(dock_record_reply(record) == DOCK_ACK);
+    }
+    if (dock_kind(word) == DOCK_TAKE) {
+        board_send(dock_record_reply(record) == DOCK_DRIVEN ? dock_record_byte(record) : 0xFF);
+    }
+}
+
+/* The refusal. An unfit state tells no outputs: the pins stay as they are. */
+static uint32_t give(struct firmware *dock, uint16_t word) {
+    uint32_t record = dock_step(dock->state, sizeof dock->state, word);
+    answer_bus(word, record);
+    if (dock_record_refusal(record) != DOCK_UNFIT_STATE) {
+        board_drive(dock_record_outputs(record));
+    }
+    return dock_record_refusal(record);
+}
+
+/* ---- starting ---- */
+
+/* Straps that the board cannot have make no RESET. Then the state stays a fresh one, which drives no pin, acknowledges
+ * nothing and refuses every event, until a RESET comes whose straps are right. */
+static void start_anew(struct firmware *dock) {
+    uint32_t reset = dock_pack(DOCK_RESET, board_straps(), board_levels());
+    dock_begin(dock->state, sizeof dock->state);
+    if (dock_refusal(reset) == DOCK_ACCEPTED) {
+        give(dock, dock_value(reset));
+    } else {
+        board_drive(dock_value(dock_outputs(dock->state, sizeof dock->state)));
+    }
+}
+
+/* Goes on from the saved state; 0 where there is none, it is refused or not started, or the board has other straps.
+ * No command outlives a power cut, so TIMEOUT ends one that was open. The levels are sampled anew: a cartridge that
+ * left or came meanwhile is debounced as ever. Time stood still: phase, counts and a pulse go on as they were saved. */
+static int go_on(struct firmware *dock) {
+    if (!store_load(dock->saved)) {
+        return 0;
+    }
+    memcpy(dock->state, dock->saved, sizeof dock->state);
+    return dock->state[DOCK_AT_STRAPS] == board_straps() && give(dock, timeout_word()) == DOCK_ACCEPTED &&
+           give(dock, levels_word()) == DOCK_ACCEPTED;
+}
+
+/* The interrupts come on before the levels are sampled, so that no change falls between the two. */
+static void start(struct firmware *dock) {
+    ring_begin(&dock->waiting);
+    dock->reset_lost = 0;
+    board_listen();
+    if (!go_on(dock)) {
+        memset(dock->saved, 0, sizeof dock->saved);
+        start_anew(dock);
+    }
+}
+
+/* ---- saving ---- */
+
+static int same(const struct firmware *dock, size_t from, size_t end) {
+    return memcmp(dock->state + from, dock->saved + from, end - from) == 0;
+}
+
+static int same_bay(const struct firmware *dock, int bay) {
+    size_t flags = DOCK_AT_BAY_FLAGS(bay), numbers = DOCK_AT_BAY_NUMBERS(bay), pulse = numbers + DOCK_BAY_PULSE;
+    return same(dock, flags + DOCK_BAY_ACCEPTED, flags + DOCK_BAY_PWR_CTL + 1) &&
+           same(dock, numbers + DOCK_BAY_STATE, numbers + DOCK_BAY_PULSE) &&
+           (dock->state[pulse] == 0) == (dock->saved[pulse] == 0);
+}
+
+/* Saves where something changed that a restart could not do without. What changes with every tick or bounce is saved
+ * along with it and is no reason by itself: phase, counts, a pulse's ticks, sampled levels, an open command. So a pulse
+ * that is cut may last longer after the restart, by the ticks since the last save. */
+static void save(struct firmware *dock) {
+    if (same(dock, DOCK_AT_VERSION, DOCK_AT_FLAGS_0) && same(dock, DOCK_AT_STRAPS, DOCK_AT_PHASE) &&
+        same_bay(dock, 0) && same_bay(dock, 1)) {
+        return;
+    }
+    store_save(dock->state);
+    memcpy(dock->saved, dock->state, sizeof dock->saved);
+}
+
+/* ---- the loop ---- */
+
+/* A state that no event explains, as after a flipped bit in RAM, is not mended: the dock starts anew. */
+static void turn(struct firmware *dock, uint16_t word) {
+    if (give(dock, word) == DOCK_UNFIT_STATE) {
+        start_anew(dock);
+    }
+}
+
+static void drain(struct firmware *dock) {
+    uint16_t word;
+    while (ring_take(&dock->waiting, &word)) {
+        turn(dock, word);
+    }
+}
+
+/* Words were lost after those that wait. A command may have a gap, so it ends here; the levels are sampled anew; lost
+ * ticks stay lost. A lost RESET does all that and more. Each mark goes before what it asks for, so that nothing that
+ * happens from here on is missed. */
+static void catch_up(struct firmware *dock) {
+    drain(dock);
+    dock->waiting.lost = 0;
+    if (dock->reset_lost) {
+        dock->reset_lost = 0;
+        start_anew(dock);
+    } else {
+        turn(dock, timeout_word());
+        turn(dock, levels_word());
+    }
+}
+
+void firmware_run(struct firmware *dock) {
+    if (!dock_fits_header()) {
+        return;
+    }
+    start(dock);
+    do {
+        drain(dock);
+        if (dock->waiting.lost) {
+            catch_up(dock);
+        }
+        save(dock);
+    } while (board_wait());
+}

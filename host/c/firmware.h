@@ -1,0 +1,25 @@
+/* A dock's firmware: the part to copy. firmware.c, ring.h and store.c use neither the heap nor stdio; what a board must
+ * give them is in board.h. */
+#ifndef FIRMWARE_H
+#define FIRMWARE_H
+
+#include "dock.h"
+#include "ring.h"
+
+struct firmware {
+    uint8_t state[DOCK_STATE_BYTES];
+    uint8_t saved[DOCK_STATE_BYTES]; /* as it was last saved, or zeros */
+    struct ring waiting;
+    volatile uint8_t reset_lost; /* a RESET is not among the words that wait, and is to be made up for */
+};
+
+/* Starts, from the saved state where it can, and then runs until board_wait tells that the power is gone. Interrupts
+ * are off until it calls board_listen. Returns at once, with nothing driven, where the library is not the header's. */
+void firmware_run(struct firmware *dock);
+
+/* What every interrupt calls: the bus for START, STOP, BYTE, TAKE and TIMEOUT, the inputs for PINS, the timer for TICK
+ * every ten milliseconds, the reset line for RESET. 0 where there is no room, or no event has these numbers: then the
+ * interrupt answers a BYTE without ACK, and a TAKE with FFh, itself. A RESET is made up for by the loop. */
+int firmware_event(struct firmware *dock, uint8_t kind, uint8_t first, uint8_t second);
+
+#endif

@@ -1,0 +1,204 @@
+//! Which damaged states are tried, and what is tried with each.
+
+use crate::strings;
+use model::{is_image, Controller, STATE_BYTES};
+use std::collections::HashSet;
+use std::fmt;
+use trial::{hex, lists, Held, Mismatch, Random, Room, TOO_MANY};
+
+/// A reached state comes after a list of at most so many words.
+const MOST_BEFORE: usize = 400;
+
+/// How many words an accepted state is given.
+const WORDS_AFTER: usize = 36;
+
+/// So many reached states have every value tried in every byte, and every length.
+const THOROUGH: usize = 8;
+
+/// What was tried, and what became of it.
+#[derive(Clone, Copy, Default)]
+struct Counts {
+    tried: usize,
+    no_image: usize,
+    unfit: usize,
+    accepted: usize,
+    words: usize,
+}
+
+impl std::ops::AddAssign for Counts {
+    fn add_assign(&mut self, more: Counts) {
+        self.tried += more.tried;
+        self.no_image += more.no_image;
+        self.unfit += more.unfit;
+        self.accepted += more.accepted;
+        self.words += more.words;
+    }
+}
+
+impl fmt::Display for Counts {
+    fn fmt(&self, f: &mut fmt::Formatter) -> fmt::Result {
+        let Counts { tried, no_image, unfit, accepted, words } = self;
+        write!(f, "{:>9} {:>9} {:>9} {:>9} {:>11}", tried, no_image, unfit, accepted, words)
+    }
+}
+
+pub struct Trials {
+    random: Random,
+    part: Counts,
+    total: Counts,
+}
+
+impl Trials {
+    pub fn new(seed: u64) -> Trials {
+        Trials { random: Random::new(seed, 0), part: Counts::default(), total: Counts::default() }
+    }
+
+    pub fn everything(&mut self, states: usize, strings: usize) -> Result<(), String> {
+        let reached = self.reached(states)?;
+        let thorough = &reached[..THOROUGH.min(reached.len())];
+        println!(
+            "{:<28} {:>9} {:>9} {:>9} {:>9} {:>11}",
+            "damaged states", "tried", "no image", "unfit", "accepted", "words after"
+        );
+        self.part("single bits flipped", |trials| reached.iter().try_for_each(|image| trials.flips(image)))?;
+        self.part("every value of every byte", |trials| thorough.iter().try_for_each(|image| trials.values(image)))?;
+        self.part("random strings", |trials| trials.noise(strings))?;
+        self.part("strings made of fields", |trials| trials.made(strings))?;
+        self.part("every length", |trials| thorough.iter().try_for_each(|image| trials.lengths(image)))?;
+        println!("{:<28} {}", "all", self.total);
+        println!("images of {} reached states damaged: 0 mismatches", reached.len());
+        Ok(())
+    }
+
+    fn part(&mut self, name: &str, run: impl Fn(&mut Trials) -> Result<(), String>) -> Result<(), String> {
+        self.part = Counts::default();
+        run(self).map_err(|told| format!("{}: {}", name, told))?;
+        println!("{:<28} {}", name, self.part);
+        self.total += self.part;
+        Ok(())
+    }
+
+    /// Images of different states, each after a list of words, as the library holds them.
+    fn reached(&mut self, states: usize) -> Result<Vec<Vec<u8>>, String> {
+        let mut seen = HashSet::new();
+        let mut reached = Vec::new();
+        while reached.len() < states {
+            let length = self.random.between(1, MOST_BEFORE);
+            let words = lists::list(&mut self.random, length);
+            let image =
+                after(&words).map_err(|mismatch| tell(&format!("on the way, words {:04X?}", words), &mismatch))?;
+            if seen.insert(image.clone()) {
+                reached.push(image);
+            }
+        }
+        Ok(reached)
+    }
+
+    fn flips(&mut self, image: &[u8]) -> Result<(), String> {
+        for bit in 0..8 * image.len() {
+            let mut bytes = image.to_vec();
+            bytes[bit / 8] ^= 1 << (bit % 8);
+            self.judge(&bytes)?;
+        }
+        Ok(())
+    }
+
+    fn values(&mut self, image: &[u8]) -> Result<(), String> {
+        for place in 0..image.len() {
+            for value in 0..=u8::MAX {
+                let mut bytes = image.to_vec();
+                bytes[place] = value;
+                self.judge(&bytes)?;
+            }
+        }
+        Ok(())
+    }
+
+    fn noise(&mut self, strings: usize) -> Result<(), String> {
+        (0..strings).try_for_each(|_| {
+            let bytes = strings::noise(&mut self.random, STATE_BYTES);
+            self.judge(&bytes)
+        })
+    }
+
+    fn made(&mut self, strings: usize) -> Result<(), String> {
+        (0..strings).try_for_each(|_| {
+            let bytes = strings::made(&mut self.random);
+            self.judge(&bytes)
+        })
+    }
+
+    /// The image cut, or followed by zeros, by itself or by anything, and random bytes throughout.
+    fn lengths(&mut self, image: &[u8]) -> Result<(), String> {
+        for length in 0..=2 * STATE_BYTES {
+            let tails = [vec![0; STATE_BYTES], image.to_vec(), strings::noise(&mut self.random, STATE_BYTES)];
+            for tail in tails {
+                self.judge(&[image, &tail].concat()[..length])?;
+            }
+            let bytes = strings::noise(&mut self.random, length);
+            self.judge(&bytes)?;
+        }
+        Ok(())
+    }
+
+    /// The model says what the bytes are; every call must treat them so.
+    fn judge(&mut self, bytes: &[u8]) -> Result<(), String> {
+        let mut held = Held::of_bytes(bytes);
+        self.part.tried += 1;
+        let outcome = match held.model().cloned() {
+            Some(dock) => {
+                self.part.accepted += 1;
+                self.goes_on(&mut held, &dock)
+            }
+            None => {
+                self.part.no_image += usize::from(!is_image(bytes));
+                self.part.unfit += usize::from(is_image(bytes));
+                self.is_refused(&mut held)
+            }
+        };
+        outcome.map_err(|mismatch| tell(&format!("state {}", hex(bytes)), &mismatch))
+    }
+
+    /// By every call but the last, which begins a fresh state where the length is right.
+    fn is_refused(&mut self, held: &mut Held) -> Result<(), Mismatch> {
+        let word = self.random.word();
+        held.step(word)?;
+        held.batch(&[0xC0BF, word, 0xA000], Room::Exact)?;
+        held.batch(&[word], Room::Short(1))?;
+        held.batch(&[], Room::Spare(4))?;
+        held.batch(&TOO_MANY, Room::Short(usize::MAX))?;
+        let address = self.random.pick(&lists::ADDRESSES);
+        held.reading(address)?;
+        held.outputs()?;
+        held.begin()
+    }
+
+    /// The registers and outputs of the state, then words, half of them one by one and half in a batch.
+    fn goes_on(&mut self, held: &mut Held, dock: &Controller) -> Result<(), Mismatch> {
+        let words = lists::onward(&mut self.random, dock.write_address(), dock.levels(), WORDS_AFTER);
+        let (by_steps, in_a_batch) = words.split_at(WORDS_AFTER / 2);
+        questions(held)?;
+        by_steps.iter().try_for_each(|&word| held.step(word))?;
+        questions(held)?;
+        held.batch(in_a_batch, Room::Exact)?;
+        questions(held)?;
+        self.part.words += words.len();
+        Ok(())
+    }
+}
+
+fn questions(held: &mut Held) -> Result<(), Mismatch> {
+    held.outputs()?;
+    lists::ADDRESSES.iter().try_for_each(|&address| held.reading(address))
+}
+
+fn after(words: &[u16]) -> Result<Vec<u8>, Mismatch> {
+    let mut held = Held::begun()?;
+    held.batch(words, Room::Exact)?;
+    Ok(held.bytes().to_vec())
+}
+
+fn tell(what: &str, mismatch: &Mismatch) -> String {
+    let Mismatch { asked, library, model } = mismatch;
+    format!("{}\n  asked: {}\n  library: {}\n  model: {}\n", what, asked, library, model)
+}

@@ -1,0 +1,134 @@
+//! A list of words through one held state: begun, given the words by and by, with questions and refused calls between.
+
+use crate::compare::Mismatch;
+use crate::sides::LIBRARY;
+use trial::{held, lists, Held, Random, Room, TOO_MANY};
+
+/// How the words are given: one at a time, or in batches that are cut anywhere.
+#[derive(Clone, Copy, Debug)]
+pub enum Way {
+    Steps,
+    Batches,
+}
+
+#[derive(Default)]
+pub struct Counts {
+    pub steps: usize,
+    pub batched: usize,
+    pub readings: usize,
+    pub outputs: usize,
+    pub refused: usize,
+}
+
+impl std::ops::AddAssign for Counts {
+    fn add_assign(&mut self, more: Counts) {
+        self.steps += more.steps;
+        self.batched += more.batched;
+        self.readings += more.readings;
+        self.outputs += more.outputs;
+        self.refused += more.refused;
+    }
+}
+
+const TICK: u16 = 0xA000;
+
+/// The same words, way and seed walk alike. Tells the word at which the walk was.
+pub fn walk(words: &[u16], way: Way, seed: u64) -> Result<Counts, Mismatch> {
+    let mut walk = Walk { random: Random::new(seed, way as u64), counts: Counts::default() };
+    let mut given = 0;
+    walk.all(words, way, &mut given).map(|()| walk.counts).map_err(|mismatch| Mismatch {
+        position: Some(given),
+        asked: mismatch.asked,
+        side: LIBRARY.name,
+        answer: mismatch.library,
+        model: mismatch.model,
+    })
+}
+
+struct Walk {
+    random: Random,
+    counts: Counts,
+}
+
+impl Walk {
+    fn all(&mut self, words: &[u16], way: Way, given: &mut usize) -> Result<(), held::Mismatch> {
+        let mut held = Held::begun()?;
+        self.questions(&mut held)?;
+        while *given < words.len() {
+            *given += match way {
+                Way::Steps => self.step(&mut held, words[*given])?,
+                Way::Batches => self.batch(&mut held, &words[*given..])?,
+            };
+            if self.random.one_in(16) {
+                self.questions(&mut held)?;
+            }
+            if self.random.one_in(256) {
+                self.refused_calls(&mut held)?;
+            }
+        }
+        self.refused_calls(&mut held)?;
+        self.questions(&mut held)
+    }
+
+    fn step(&mut self, held: &mut Held, word: u16) -> Result<usize, held::Mismatch> {
+        self.counts.steps += 1;
+        held.step(word)?;
+        Ok(1)
+    }
+
+    /// A batch of some of the words, of none or of all. It may be refused for its room or its length, and then another
+    /// is tried.
+    fn batch(&mut self, held: &mut Held, words: &[u16]) -> Result<usize, held::Mismatch> {
+        let length = match self.random.below(8) {
+            0 => self.random.between(0, 1),
+            1..=3 => self.random.between(0, 8),
+            4..=6 => self.random.between(1, 100),
+            _ => words.len(),
+        };
+        let room = match self.random.below(8) {
+            0 => Room::Short(self.random.between(1, 4)),
+            1 => Room::Spare(self.random.between(1, 70)),
+            _ => Room::Exact,
+        };
+        let count = held.batch(&words[..length.min(words.len())], room)?;
+        self.counts.batched += count;
+        Ok(count)
+    }
+
+    /// The outputs and a register, and now and then all 256.
+    fn questions(&mut self, held: &mut Held) -> Result<(), held::Mismatch> {
+        self.counts.outputs += 1;
+        held.outputs()?;
+        if self.random.one_in(32) {
+            self.counts.readings += 256;
+            return (0..=u8::MAX).try_for_each(|address| held.reading(address));
+        }
+        self.counts.readings += 1;
+        held.reading(self.random.pick(&lists::ADDRESSES))
+    }
+
+    /// Calls that must be refused and leave everything as it was: batches that can't be done, and every call on a state
+    /// that has lost or gained bytes.
+    fn refused_calls(&mut self, held: &mut Held) -> Result<(), held::Mismatch> {
+        self.counts.refused += 3;
+        held.batch(&[TICK; 3], Room::Short(self.random.between(1, 12)))?;
+        held.batch(&TOO_MANY, Room::Exact)?;
+        held.batch(&TOO_MANY, Room::Short(usize::MAX))?;
+        let shorter = self.random.between(0, held.bytes().len() - 1);
+        let longer = self.random.between(1, 64);
+        self.every_call(&held.bytes()[..shorter])?;
+        self.every_call(&[held.bytes(), &vec![0; longer]].concat())
+    }
+
+    fn every_call(&mut self, state: &[u8]) -> Result<(), held::Mismatch> {
+        self.counts.refused += 7;
+        let mut held = Held::of_bytes(state);
+        held.begin()?;
+        held.step(TICK)?;
+        held.batch(&[TICK; 2], Room::Exact)?;
+        held.batch(&[TICK; 2], Room::Short(1))?;
+        held.batch(&TOO_MANY, Room::Short(usize::MAX))?;
+        held.reading(0x10)?;
+        held.outputs()
+    }
+}

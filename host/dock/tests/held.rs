@@ -1,0 +1,131 @@
+//! The wrapper's own part: what it makes of the library's numbers, and what it keeps on a refusal.
+
+use dock::{records, BayState, Dock, Error, Event, Outputs, Record, Refusal, Reply, Status, STATE_BYTES};
+use dock::{Bay, MOST_WORDS};
+
+const RESET: u16 = 0xC0BF;
+const TICK: u16 = 0xA000;
+const STRAY: u16 = 0xA001;
+
+fn refused<T>(refusal: Refusal) -> Result<T, Error> {
+    Err(Error::Refused(refusal))
+}
+
+fn started() -> Dock {
+    let mut dock = Dock::new().unwrap();
+    dock.step(RESET).unwrap();
+    dock
+}
+
+#[test]
+fn a_refused_word_leaves_the_image() {
+    let mut dock = Dock::new().unwrap();
+    let fresh = dock.clone();
+    assert_eq!(dock.step(TICK), refused(Refusal::NotStarted));
+    assert_eq!(dock.event(Event::Reset { straps: 16, levels: 0 }), refused(Refusal::WideStraps));
+    assert_eq!(dock, fresh);
+    let mut dock = started();
+    dock.event(Event::Start).unwrap();
+    let open = dock.clone();
+    assert_eq!(dock.step(STRAY), refused(Refusal::StrayBit));
+    assert_eq!(dock, open);
+}
+
+#[test]
+fn steps_and_a_batch_come_to_the_same() {
+    let words = [RESET, 0x0000, 0x4090, 0x4014, 0x40AD, 0x2000, STRAY, TICK];
+    let mut by_batch = Dock::new().unwrap();
+    let mut bytes = [0xEE; 4 * 8 + 3];
+    assert_eq!(by_batch.batch(&words, &mut bytes), Ok(8));
+    assert_eq!(bytes[32..], [0xEE; 3]);
+    let mut by_steps = Dock::new().unwrap();
+    for (&word, record) in words.iter().zip(records(&bytes)) {
+        assert_eq!(by_steps.step(word), record.unwrap().step().map_err(Error::from));
+    }
+    assert_eq!(by_steps, by_batch);
+    assert_eq!(by_batch.outputs().unwrap().to_string(), "power 0, lock 0, green 0, interrupt");
+    assert_eq!(by_batch.reading(0x14), Ok(0xAD));
+    assert_eq!(by_batch.status(Bay::Zero).unwrap().state(), BayState::Enabled);
+    assert_eq!(by_batch.status(Bay::One).unwrap().state(), BayState::Empty);
+}
+
+#[test]
+fn a_refused_batch_leaves_image_and_records() {
+    let mut dock = started();
+    let before = dock.clone();
+    let mut bytes = [0xEE; 7];
+    assert_eq!(dock.batch(&[TICK, TICK], &mut bytes), refused(Refusal::ShortAnswers));
+    assert_eq!(dock.batch(&[TICK; MOST_WORDS + 1], &mut bytes), refused(Refusal::TooManyWords));
+    assert_eq!(bytes, [0xEE; 7]);
+    assert_eq!(dock, before);
+}
+
+#[test]
+fn only_images_of_fit_states_come_back() {
+    let dock = started();
+    assert_eq!(Dock::from_bytes(dock.bytes()), Ok(dock.clone()));
+    assert_eq!(Dock::try_from(&dock.bytes()[..]), Ok(dock.clone()));
+    for length in 0..STATE_BYTES {
+        assert_eq!(Dock::from_bytes(&dock.bytes()[..length]), refused(Refusal::UnfitState));
+    }
+    for (place, byte) in [(0, 0), (0, 2), (1, 2), (35, 200), (48, 7), (49, 1)] {
+        let mut damaged = *dock.bytes();
+        damaged[place] = byte;
+        assert_eq!(Dock::from_bytes(&damaged), refused(Refusal::UnfitState));
+    }
+}
+
+#[test]
+fn every_word_is_the_word_of_its_event() {
+    let events = (0..=u16::MAX).filter_map(|word| match Event::try_from(word) {
+        Ok(event) => {
+            assert_eq!(u16::try_from(event), Ok(word));
+            Some(event)
+        }
+        Err(error) => {
+            assert_eq!(error, Error::Refused(Refusal::StrayBit));
+            None
+        }
+    });
+    assert_eq!(events.count(), 4 + 256 + 256 + 2 + 4096);
+}
+
+#[test]
+fn records_are_read_as_the_paper_packs_them() {
+    let read = |bits: u32| Record::try_from(bits).map(|record| (record.refusal, record.reply, record.outputs.bits()));
+    assert_eq!(read(0x0200_0000), Ok((None, Reply::Ack, 0)));
+    assert_eq!(read(0x0401_FF00), Ok((None, Reply::NoAck, 0x1FF)));
+    assert_eq!(read(0x062A_4100), Ok((None, Reply::Driven(0x15), 0x041)));
+    assert_eq!(read(0x09FE_0000), Ok((None, Reply::NotDriven, 0)));
+    assert_eq!(read(0x2001_C000), Ok((Some(Refusal::StrayBit), Reply::None, 0x1C0)));
+}
+
+#[test]
+fn numbers_without_a_name_are_told() {
+    assert!((1..=6).all(|number| Refusal::try_from(number).map(|refusal| refusal as u16) == Ok(number)));
+    assert!([0, 7, 15, 0xFFFF].iter().all(|&number| Refusal::try_from(number).is_err()));
+    assert!((5..=7).all(|state| BayState::try_from(state).is_err() && Status::try_from(state << 4).is_err()));
+    assert!(Outputs::try_from(0x1FF).is_ok());
+    assert!(Outputs::try_from(0x200).is_err());
+    for (number, byte) in [(0, 1), (1, 1), (2, 1), (4, 0), (5, 0), (6, 0), (7, 0)] {
+        assert!(Reply::try_from((number, byte)).is_err());
+    }
+    assert!(Record::try_from(0x0000_0080).is_err());
+    assert!(Record::try_from(0x7000_0000).is_err());
+    assert!(Record::try_from(0x0A00_0000).is_err());
+}
+
+#[test]
+fn outputs_name_what_is_on() {
+    let shown = |bits| Outputs::try_from(bits).unwrap().to_string();
+    assert_eq!(shown(0), "all off");
+    assert_eq!(shown(0x001), "interrupt");
+    assert_eq!(shown(0x1FF), "power 0, lock 0, green 0, yellow 0, power 1, lock 1, green 1, yellow 1, interrupt");
+}
+
+#[cfg(feature = "error")]
+#[test]
+fn errors_are_errors() {
+    let error: Box<dyn std::error::Error> = Box::new(Error::Refused(Refusal::UnfitState));
+    assert_eq!(error.to_string(), "refused: the bytes are no image of a fit state");
+}

@@ -1,0 +1,10 @@
+//! What the tests that hold the proved library against the model share.
+
+mod bytes;
+pub mod held;
+pub mod lists;
+mod random;
+
+pub use bytes::{hex, pattern, Room};
+pub use held::{Held, Mismatch, TOO_MANY};
+pub use random::Random;
