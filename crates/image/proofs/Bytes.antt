@@ -1,4 +1,4 @@
--- A list of known length is its elements, so that what holds of every such list of elements holds of it. Assumes nothing.
+-- The bytes as the code reads and makes them, part by part, are those of the definitions. Assumes nothing.
 use Prim.Native.Nat.{ℕ, zero, suc}
 use mathlib.Core.Path.{_≡_, refl, ap, _∙_}
 use mathlib.Core.Bool.{Bool, true, false}
@@ -11,18 +11,7 @@ use Rattle.dock.specs.declared.Controller.{Controller}
 use Rattle.image.specs.Layout.{LAYOUT, BYTES}
 use Rattle.image.specs.Save.{flagByte, flagsOf, numbersOf, progressBytes, saved}
 use Rattle.image.specs.Load.{byteAt, isSet, bayBy, machineIn}
-
-module _ {A : Type 0} where
-  abbrev pub spelled : ℕ → (ℕ → A) → List A
-  spelled zero f = []
-  spelled (suc n) f = f zero ∷ spelled n (λ i. f (suc i))
-
-  is-spelled : (d : A) (xs : List A) → spelled (length xs) (λ i. getD xs i d) ≡ xs
-  is-spelled d [] = refl
-  is-spelled d (x ∷ xs) = ap (λ l. x ∷ l) (is-spelled d xs)
-
-  pub by-elements : (d : A) (n : ℕ) (P : List A → Type 0) → ((f : ℕ → A) → P (spelled n f)) → (xs : List A) → length xs ≡ n → P xs
-  by-elements d n P h xs e = rw (← is-spelled d xs, e) (h (λ i. getD xs i d))
+use Rattle.image.proofs.Elements.{by-elements}
 
 -- An element of a list of bytes read as flags is that byte read as a flag.
 pub flag-at : (bs : List ℕ) (i : ℕ) → getD (map isSet bs) i false ≡ isSet (getD bs i 0)
@@ -65,11 +54,14 @@ three-are (Data r v) = refl
 three-are (Again r) = refl
 three-are (Reading v) = refl
 
--- A flag as the code casts it to a byte.
+-- A flag as the code casts it to a number.
+pub cast-flag : (b : Bool) → boolByte b ≡ flagByte b
+cast-flag true = refl
+cast-flag false = refl
+
 cast-flags : (fs : List Bool) → map boolByte fs ≡ map flagByte fs
 cast-flags [] = refl
-cast-flags (true ∷ fs) = ap (λ l. 1 ∷ l) (cast-flags fs)
-cast-flags (false ∷ fs) = ap (λ l. 0 ∷ l) (cast-flags fs)
+cast-flags (f ∷ fs) = rw (cast-flag f, cast-flags fs)
 
 pub put-together :
     (s : Controller)

@@ -1,4 +1,5 @@
 pub mod Flags
+pub mod Elements
 pub mod Bytes
 pub mod Whole
 pub mod RoundTrip

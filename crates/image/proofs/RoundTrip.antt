@@ -22,7 +22,7 @@ use Rattle.image.specs.Save.{flagByte, bayFlags, bayNumbers, flagsOf, nu
 use Rattle.image.specs.Load.{byteAt, flagBytes, numbersIn, allFlags, firstOver, whole, progressVerdict, sizedVerdict, verdictOn, isImage, isSet, bayBy, machineBy, progressBy, stateIn, loadOf}
 use Rattle.image.specs.Shape.{ShapedBay, Shaped}
 use Rattle.image.specs.declared.Verdict.the-variants.{Whole, WrongLength, UnknownVersion, NotAFlag, NotUsed}
-use Rattle.image.proofs.Bytes.{by-elements}
+use Rattle.image.proofs.Elements.{by-elements}
 
 -- ---- a saved state, loaded
 

@@ -44,6 +44,22 @@ pub const FIRST: usize = 49;
 
 pub const SECOND: usize = 50;
 
+// ---- which command is in progress; from REGISTER on it holds a byte, and at DATA two
+
+pub(crate) const IDLE: u8 = 0;
+
+pub(crate) const OPENED: u8 = 1;
+
+pub(crate) const ADDRESSED: u8 = 2;
+
+pub(crate) const REGISTER: u8 = 3;
+
+pub(crate) const DATA: u8 = 4;
+
+pub(crate) const AGAIN: u8 = 5;
+
+pub(crate) const READING: u8 = 6;
+
 // ---- the flags of a bay, from FLAGS_0 or FLAGS_1; n1394, nUSB and nREMREQ for levels and accepted levels
 
 pub const LEVELS: usize = 0;

@@ -81,15 +81,15 @@ fn progress_from(which: u8, first: u8, second: u8) -> Progress
     ensures { λ r. ⌜ r ≡ progressBy which first second ⌝ }
 {
     match which {
-        1 => Progress::Opened,
-        2 => Progress::Addressed,
-        3 => Progress::Register(first),
-        4 => Progress::Data {
+        crate::OPENED => Progress::Opened,
+        crate::ADDRESSED => Progress::Addressed,
+        crate::REGISTER => Progress::Register(first),
+        crate::DATA => Progress::Data {
             register: first,
             value: second,
         },
-        5 => Progress::Again(first),
-        6 => Progress::Reading(first),
+        crate::AGAIN => Progress::Again(first),
+        crate::READING => Progress::Reading(first),
         _ => Progress::Idle,
     }
 }
@@ -126,9 +126,9 @@ fn first_over(flags: &[u8]) -> usize
 fn progress_verdict(which: u8, first: u8, second: u8) -> Verdict
     ensures { λ r. ⌜ r ≡ progressVerdict which first second ⌝ }
 {
-    if which <= 6 {
-        if (3 <= which) | (first == 0) {
-            if (which == 4) | (second == 0) {
+    if which <= crate::READING {
+        if (crate::REGISTER <= which) | (first == 0) {
+            if (which == crate::DATA) | (second == 0) {
                 return Verdict::Whole;
             }
             return Verdict::NotUsed(crate::SECOND);

@@ -11,13 +11,13 @@ fn progress_bytes(progress: Progress) -> [u8; 3]
     ensures { λ r. ⌜ r ≡ progressBytes progress ⌝ }
 {
     match progress {
-        Progress::Idle => [0, 0, 0],
-        Progress::Opened => [1, 0, 0],
-        Progress::Addressed => [2, 0, 0],
-        Progress::Register(register) => [3, register, 0],
-        Progress::Data { register, value } => [4, register, value],
-        Progress::Again(register) => [5, register, 0],
-        Progress::Reading(value) => [6, value, 0],
+        Progress::Idle => [crate::IDLE, 0, 0],
+        Progress::Opened => [crate::OPENED, 0, 0],
+        Progress::Addressed => [crate::ADDRESSED, 0, 0],
+        Progress::Register(register) => [crate::REGISTER, register, 0],
+        Progress::Data { register, value } => [crate::DATA, register, value],
+        Progress::Again(register) => [crate::AGAIN, register, 0],
+        Progress::Reading(value) => [crate::READING, value, 0],
     }
 }
 

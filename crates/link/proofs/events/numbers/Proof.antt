@@ -1,6 +1,6 @@
 -- `link::events::numbers` meets its contract: each arm is given which event it is. Assumes nothing.
 use Rattle.link.specs.Events.{numbersOf}
-use Rattle.link.proofs.Casts.{cast-flag}
+use Rattle.image.proofs.Bytes.{cast-flag}
 use borrow.Author.Needs.{needs}
 use Rattle.link.proofs.events.numbers.Statement.{statement}
 use Rattle.link.proofs.events.numbers.Tie as tie
