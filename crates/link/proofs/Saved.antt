@@ -1,6 +1,6 @@
 -- What the calls come to on the image of a record: the controller's own answers, and the image of its next state. Assumes nothing.
 use Prim.Native.Nat.{ℕ}
-use mathlib.Core.Path.{_≡_, refl}
+use mathlib.Core.Path.{_≡_, ap}
 use mathlib.Core.List.{List}
 use lib.ListN.{length}
 use Rattle.dock.specs.Record.{freshController}
@@ -11,36 +11,39 @@ use Rattle.image.specs.Save.{saved}
 use Rattle.image.specs.Shape.{Shaped}
 use Rattle.image.proofs.RoundTrip.{saved-image, state-back}
 use Rattle.image.proofs.Shape.{fresh-shaped}
-use Rattle.link.specs.Held.{answerIn, steppedIn, outcomeIn, batchedIn, recordsIn, readingIn, outputsIn}
+use Rattle.link.specs.Held.{inImage, answerIn, steppedIn, outcomeIn, batchedIn, recordsIn, readingIn, outputsIn}
 
 module _ (s : Controller) (h : Shaped (s .machine)) where
+  of-image : {A : Type 0} (gives : Controller → A) (none : A) → inImage (saved s) gives none ≡ gives s
+  of-image gives none = rw (saved-image s) (ap gives (state-back s h))
+
   pub held-answer : (w : ℕ) → answerIn (saved s) w ≡ stepOf s w .answer
   unfolding answerIn
-  held-answer w = rw (saved-image s, state-back s h) refl
+  held-answer w = of-image (λ t. stepOf t w .answer) _
 
   pub held-step : (w : ℕ) → steppedIn (saved s) w ≡ saved (stepOf s w .controller)
   unfolding steppedIn
-  held-step w = rw (saved-image s, state-back s h) refl
+  held-step w = of-image (λ t. saved (stepOf t w .controller)) _
 
   pub held-outcome : (words room : ℕ) → outcomeIn (saved s) words room ≡ outcomeOf s words room
   unfolding outcomeIn
-  held-outcome words room = rw (saved-image s, state-back s h) refl
+  held-outcome words room = of-image (λ t. outcomeOf t words room) _
 
   pub held-batch : (ws : List ℕ) (room : ℕ) → batchedIn (saved s) ws room ≡ saved (stateBy (outcomeOf s (length ws) room) s ws)
   unfolding batchedIn
-  held-batch ws room = rw (saved-image s, state-back s h) refl
+  held-batch ws room = of-image (λ t. saved (stateBy (outcomeOf t (length ws) room) t ws)) _
 
   pub held-records : (ws buffer : List ℕ) → recordsIn (saved s) ws buffer ≡ bufferAfter s ws buffer
   unfolding recordsIn
-  held-records ws buffer = rw (saved-image s, state-back s h) refl
+  held-records ws buffer = of-image (λ t. bufferAfter t ws buffer) _
 
   pub held-reading : (a : ℕ) → readingIn (saved s) a ≡ toldReading s a
   unfolding readingIn
-  held-reading a = rw (saved-image s, state-back s h) refl
+  held-reading a = of-image (λ t. toldReading t a) _
 
   pub held-outputs : outputsIn (saved s) ≡ toldOutputs s
   unfolding outputsIn
-  held-outputs = rw (saved-image s, state-back s h) refl
+  held-outputs = of-image toldOutputs _
 
 -- From the image of a fresh controller.
 module _ (bytes : List ℕ) (e : bytes ≡ saved freshController) where

@@ -6,6 +6,7 @@ use lib.Dec.{eqb}
 use lib.ListN.{length}
 use Rattle.dock.specs.Record.{freshController}
 use Rattle.dock.specs.Step.{stepOf, toldReading, toldOutputs}
+use Rattle.dock.specs.declared.Controller.{Controller}
 use Rattle.dock.specs.declared.Answer.{Answer}
 use Rattle.dock.specs.declared.Answer.the-variants as answer
 use Rattle.dock.specs.declared.Told.{Told}
@@ -18,6 +19,10 @@ use Rattle.image.specs.Save.{saved}
 use Rattle.image.specs.Load.{isImage, stateIn}
 use Rattle.link.specs.Answer.{both}
 
+-- What the state of an image gives, or else, where the bytes are no image, this.
+abbrev pub inImage : {A : Type 0} → List ℕ → (Controller → A) → A → A
+inImage bytes gives none = cond (isImage bytes) (gives (stateIn bytes)) none
+
 -- Beginning: refusal 1 where the bytes are not as many as an image has.
 unfoldable pub begun : ℕ → ℕ
 begun bytes = cond (eqb bytes BYTES) (both 0 0) (both 1 0)
@@ -27,24 +32,24 @@ begunIn bytes = cond (eqb (length bytes) BYTES) (saved freshController) bytes
 
 -- One event: the answer, and the bytes afterwards.
 unfoldable pub answerIn : List ℕ → ℕ → Answer
-answerIn bytes w = cond (isImage bytes) (stepOf (stateIn bytes) w .answer) answer.Unfit
+answerIn bytes w = inImage bytes (λ s. stepOf s w .answer) answer.Unfit
 
 unfoldable pub steppedIn : List ℕ → ℕ → List ℕ
-steppedIn bytes w = cond (isImage bytes) (saved (stepOf (stateIn bytes) w .controller)) bytes
+steppedIn bytes w = inImage bytes (λ s. saved (stepOf s w .controller)) bytes
 
 -- Many events: the outcome for so many words and so many record bytes, the bytes afterwards, and the records' buffer afterwards.
 unfoldable pub outcomeIn : List ℕ → ℕ → ℕ → Outcome
-outcomeIn bytes words room = cond (isImage bytes) (outcomeOf (stateIn bytes) words room) outcome.Unfit
+outcomeIn bytes words room = inImage bytes (λ s. outcomeOf s words room) outcome.Unfit
 
 unfoldable pub batchedIn : List ℕ → List ℕ → ℕ → List ℕ
-batchedIn bytes ws room = cond (isImage bytes) (saved (stateBy (outcomeOf (stateIn bytes) (length ws) room) (stateIn bytes) ws)) bytes
+batchedIn bytes ws room = inImage bytes (λ s. saved (stateBy (outcomeOf s (length ws) room) s ws)) bytes
 
 unfoldable pub recordsIn : List ℕ → List ℕ → List ℕ → List ℕ
-recordsIn bytes ws buffer = cond (isImage bytes) (bufferAfter (stateIn bytes) ws buffer) buffer
+recordsIn bytes ws buffer = inImage bytes (λ s. bufferAfter s ws buffer) buffer
 
 -- The questions, which change nothing.
 unfoldable pub readingIn : List ℕ → ℕ → Told
-readingIn bytes a = cond (isImage bytes) (toldReading (stateIn bytes) a) told.Unfit
+readingIn bytes a = inImage bytes (λ s. toldReading s a) told.Unfit
 
 unfoldable pub outputsIn : List ℕ → Told
-outputsIn bytes = cond (isImage bytes) (toldOutputs (stateIn bytes)) told.Unfit
+outputsIn bytes = inImage bytes toldOutputs told.Unfit
