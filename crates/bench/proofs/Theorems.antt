@@ -110,7 +110,7 @@ loads-back s shaped octets fit b =
       state-back s shaped octets fit,
     )
 
--- Any other text changes nothing, and what is gone on from is fit.
+-- Any other text changes nothing.
 pub damage-kept : (t : List ℕ) (b : Bench) → isFit (pastedOf t .finding) ≡ false → obeyed Load t b ≡ b
 unfolding obeyed loadedBy
 damage-kept t b damaged = rw damaged

@@ -1,5 +1,4 @@
--- The place that a verdict names: the first flag above 1, or a byte that isn't 0 and that the command in progress doesn't use. Assumes
--- nothing.
+-- The place that a verdict names where a byte is no flag: that of the first flag above 1. Assumes nothing.
 use Prim.Native.Nat.{ℕ, zero, suc, _+_, _<_, _≤_}
 use native.Mathlib.Omega.{arith}
 use mathlib.Core.Path.{_≡_, refl, ap, sym, _∙_}
