@@ -1,4 +1,4 @@
-/* The proved controller of a two-bay cartridge dock, version 2.0, for C99 or C++11 and newer.
+/* The proved controller of a two-bay cartridge dock, version 2.1, for C99 or C++11 and newer.
  *
  * A program holds the controller's state as DOCK_STATE_BYTES bytes and gives it one event at a time:
  *
@@ -44,8 +44,10 @@ extern "C" {
  * not.
  *
  * Before version 2, dock_reading and dock_outputs took words where they take a state now, and dock_unpack had a layout
- * of its own. A program that was built on such a header must be built again. */
-#define DOCK_VERSION 0x0200u
+ * of its own. A program that was built on such a header must be built again.
+ *
+ * Since 2.1 a press of the removal button counts only with a device in the bay: over none, REMREQ_STS stays as it is. */
+#define DOCK_VERSION 0x0201u
 
 /* Bits of words and answers, numbers of events, replies and refusals that this header does not name are 0 or not given
  * in this version. A later one may use them (RESET's word is to grow by a bit), and then has a higher first number. A

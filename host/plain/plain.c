@@ -119,7 +119,7 @@ static void settle(struct bay *bay) {
     bool was_present = is_present(bay);
     uint8_t changed = debounce(bay);
     bool moved = (changed & PRESENCE) && presence_changed(bay, was_present);
-    if ((changed & NREMREQ) && !(bay->accepted & NREMREQ)) {
+    if ((changed & NREMREQ) && !(bay->accepted & NREMREQ) && is_present(bay)) {
         bool first = !(bay->sticky & REMREQ_STS);
         bay->sticky |= REMREQ_STS;
         if (first && !moved && (bay->control & REMREQ_EN) && takes_press(bay)) {

@@ -3,7 +3,7 @@
 use Prim.Native.Nat.{ℕ, zero, suc, _^_, _<_, _≤_, zero-le}
 use native.Mathlib.Omega.{arith}
 use native.Mathlib.Nat.{le-refl}
-use mathlib.Core.Path.{_≡_, refl, sym, _∙_}
+use mathlib.Core.Path.{_≡_, refl, sym, ap, _∙_}
 use mathlib.Core.Logic.{_↔_, _⊎_, inl, inr, ⊎-elim}
 use mathlib.Core.Bool.{Bool, true, false, not, cond, _&&_, _||_, and-eq-true-iff, and-true, and-false, and-not-self, not-and-self, or-true, or-false, false≢true}
 use lib.Dec.{eqb}
@@ -11,14 +11,15 @@ use borrow.Author.Tests.{lt-ltb, le-leb, lt-leb}
 use Rattle.bits.specs.Bits.{bit, put}
 use Rattle.bay.specs.Record.{N1394, NUSB, NREMREQ, EMPTY, ENABLED, REMOVAL-REQUESTED, REMOVAL-ALLOWED, level, acceptedLevel, count, present}
 use Rattle.bay.specs.Debounce.{differs, sampledBay}
-use Rattle.bay.specs.Moves.{input, leaves, pressed, inUse, stateAfter, movedBay, tickedBay}
+use Rattle.bay.specs.Moves.{input, leaves, heeded, inUse, stateAfter, movedBay, tickedBay}
 use Rattle.bay.specs.Registers.{bstrOf, bcerOf, asks, stateWritten, requestWritten, controlledBay}
 use Rattle.bay.specs.Outputs.{lockPin, green, yellow, bayOutputs}
 use Rattle.bay.specs.Held.{afterTicks, tickedFor}
+use Rattle.bay.specs.Table.{pressOver}
 use Rattle.bay.specs.Sound.{Sound}
 use Rattle.bay.specs.declared.Bay.{Bay}
 use Rattle.bay.specs.declared.Control.{Control}
-use Rattle.bay.proofs.Ticks.{present-after, press-after, changes-after}
+use Rattle.bay.proofs.Ticks.{left, present-after, heeded-after, changes-after}
 use Rattle.bay.proofs.Length.{restart-same, restart-other, counting, settledAt, counts-up, settles-last, follows, sampled-from-0}
 
 -- ---- power
@@ -38,7 +39,8 @@ power-needs-lock-and-device c mode ticks b = (parts, λ h. rw (h .0, h .1, h .2)
 
 -- ---- a device that leaves, and one that stays
 
--- What a removal does: Empty, stored request 0, PWR_CTL 0, and the rest of BCER as it was.
+-- What a removal does: Empty, stored request 0, PWR_CTL 0, and the rest of BCER as it was. REMREQ_STS too is as it was, set or not,
+-- whatever is pressed in the same TICK.
 pub record Removed (before after : Bay) : Type 0 where
   pub emptied : after .state ≡ 0
   pub request-gone : after .control .request ≡ 0
@@ -47,6 +49,7 @@ pub record Removed (before after : Bay) : Type 0 where
   pub remreq-kept : after .control .«remreq_en» ≡ before .control .«remreq_en»
   pub devstschg-kept : after .control .«devstschg_en» ≡ before .control .«devstschg_en»
   pub remevtwak-kept : after .control .«remevtwak_en» ≡ before .control .«remevtwak_en»
+  pub remreq-sts-kept : after .«remreq_sts» ≡ before .«remreq_sts»
 
 removed : (b : Bay) → leaves b (input b N1394) (input b NUSB) ≡ true → Removed b (tickedBay b)
 unfolding tickedBay movedBay stateAfter
@@ -59,6 +62,7 @@ removed b l =
       remreq-kept = refl;
       devstschg-kept = refl;
       remevtwak-kept = refl;
+      remreq-sts-kept = ap (λ (t : Bay). t .«remreq_sts») (left b (input b N1394) (input b NUSB) (input b NREMREQ) l);
     }
 
 -- A TICK in which the device leaves.
@@ -92,9 +96,9 @@ enabled-keeps-power b w e = go (leaves b (input b N1394) (input b NUSB)) refl
 
 -- ---- what a TICK makes of the state
 
--- The accepted press of this TICK, if there is one, moves the bay.
+-- The heeded press of this TICK, if there is one, moves the bay.
 abbrev pub pressMoves : Bay → Bool
-pressMoves b = pressed (input b NREMREQ) && b .control .«remreq_en» && not (b .«remreq_sts») && inUse b
+pressMoves b = heeded (input b N1394) (input b NUSB) (input b NREMREQ) && b .control .«remreq_en» && not (b .«remreq_sts») && inUse b
 
 -- A bay whose device neither leaves nor arrives is moved by a press only: its state is otherwise as it was, and its stored request and
 -- PWR_CTL are kept.
@@ -103,7 +107,7 @@ pub record Stayed (before after : Bay) : Type 0 where
   pub request-kept : after .control .request ≡ before .control .request
   pub power-kept : after .control .«pwr_ctl» ≡ before .control .«pwr_ctl»
 
-stayed : (b : Bay) → present (tickedBay b) ≡ present b → Stayed b (tickedBay b)
+pub stayed : (b : Bay) → present (tickedBay b) ≡ present b → Stayed b (tickedBay b)
 unfolding tickedBay movedBay stateAfter
 stayed b s =
     let q = sym (present-after b) ∙ s in
@@ -129,10 +133,10 @@ either (suc (suc i)) l b a = absurd (omega arith)
 pub one-of-two : (b : Bay) (i : ℕ) → i < 2 → present b ≡ true → acceptedLevel (tickedBay b) i ≡ false → Stayed b (tickedBay b)
 one-of-two b i l p a = stayed b (either i l (tickedBay b) a ∙ sym p)
 
--- An accepted press, nREMREQ accepted as 1 before and as 0 after, sets REMREQ_STS, in any state.
-pub pressed-sets : (b : Bay) → tickedBay b .«remreq_sts» ≡ (b .«remreq_sts» || acceptedLevel b NREMREQ && not (acceptedLevel (tickedBay b) NREMREQ))
+-- An accepted press over a device sets REMREQ_STS, in any state; nothing else in a TICK alters it.
+pub pressed-sets : (b : Bay) → tickedBay b .«remreq_sts» ≡ (b .«remreq_sts» || pressOver b (tickedBay b))
 unfolding tickedBay movedBay
-pressed-sets b = rw (← (press-after b))
+pressed-sets b = rw (← (heeded-after b))
 
 -- A change of either presence bit sets DEVSTSCHG, except when a bay in Removal Allowed becomes not present with REMEVTWAK_EN clear.
 pub change-told :
@@ -146,12 +150,13 @@ change-told b = rw (← (changes-after b), present-after b)
 pub press-once : (b : Bay) → b .«remreq_sts» ≡ true → present (tickedBay b) ≡ present b → tickedBay b .state ≡ b .state
 press-once b r s = stayed b s .state-kept ∙ rw (r, and-false)
 
--- A button that is held is one press: where its accepted level stays as it was, a TICK moves nothing and sets nothing by it.
+-- A button that is held is one press: where its accepted level stays as it was, a TICK sets nothing by it, though a device arrive, and
+-- moves nothing.
 pub held-button :
-    (b : Bay) → acceptedLevel (tickedBay b) NREMREQ ≡ acceptedLevel b NREMREQ → present (tickedBay b) ≡ present b
-    → (tickedBay b .state ≡ b .state) × (tickedBay b .«remreq_sts» ≡ b .«remreq_sts»)
-held-button b h s =
-    (stayed b s .state-kept ∙ rw (press-after b, h, and-not-self), pressed-sets b ∙ rw (h, and-not-self) (or-false (b .«remreq_sts»)))
+    (b : Bay) → acceptedLevel (tickedBay b) NREMREQ ≡ acceptedLevel b NREMREQ
+    → (tickedBay b .«remreq_sts» ≡ b .«remreq_sts») × (present (tickedBay b) ≡ present b → tickedBay b .state ≡ b .state)
+held-button b h =
+    (pressed-sets b ∙ rw (h, and-not-self) (or-false (b .«remreq_sts»)), λ s. stayed b s .state-kept ∙ rw (heeded-after b, h, and-not-self))
 
 -- ---- requests
 

@@ -11,7 +11,7 @@ use lib.Dec.{eqb, ltb, leb}
 use borrow.Author.Tests.{eq-eqb, ne-eqb, eqb-true, eqb-false, not-true}
 use Rattle.bay.specs.Record.{N1394, NUSB, NREMREQ, EMPTY, INSERTED, ENABLED, present, level, acceptedLevel, count, emptyBay, resetBay, bayFit, withStatus}
 use Rattle.bay.specs.Debounce.{debounce, sampledBay}
-use Rattle.bay.specs.Moves.{input, pressed, presentAfter, inUse, stateAfter, movedBay, tickedBay}
+use Rattle.bay.specs.Moves.{input, heeded, presentAfter, inUse, stateAfter, movedBay, tickedBay}
 use Rattle.bay.specs.Registers.{bstrWritten, asks, stateWritten, controlledBay}
 use Rattle.bay.specs.Sound.{Sound}
 use Rattle.bay.specs.declared.Bay.{Bay}
@@ -168,7 +168,7 @@ ticked-sound b s =
     let q = presentAfter (input b N1394) (input b NUSB) in
     let place =
     meant q (tickedBay b .state) (b .control .«devstschg_en»)
-    (placed-ticked b q (pressed (input b NREMREQ))
+    (placed-ticked b q (heeded (input b N1394) (input b NUSB) (input b NREMREQ))
     (test (present b) (b .state) (b .control .«devstschg_en») (record { held = s .held; waiting = s .waiting })))
     in
     record {

@@ -14,7 +14,7 @@ use Rattle.bay.specs.Registers.{controlOf, asks, stateWritten, controlle
 use Rattle.bay.specs.Table.{Table, entry, tickRows, tickTable, writeRows, writeTable}
 use Rattle.bay.specs.declared.Bay.{Bay}
 use Rattle.bay.proofs.Taut.{All, Below, Fun, below, taut, same}
-use Rattle.bay.proofs.Ticks.{present-after, press-after}
+use Rattle.bay.proofs.Ticks.{present-after, heeded-after}
 
 -- An entry that is the test for a state says exactly when that is the state.
 exactly : (state to : ℕ) (test : Bool) → eqb state to ≡ test → (state ≡ to) ↔ (test ≡ true)
@@ -25,13 +25,13 @@ exactly state to test e = (λ h. sym e ∙ eq-eqb state to h, λ t. eqb-true sta
 -- The state after it, by the state before and seven tests: a device before and after, DEVSTSCHG_EN, nREMREQ as accepted before and
 -- after, REMREQ_EN and REMREQ_STS. And the table by the same tests.
 abbrev stateBy : ℕ → Bool → Bool → Bool → Bool → Bool → Bool → Bool → ℕ
-stateBy s p q en l m req sts = cond (p && not q) 0 (cond (not p && q && en) 1 (cond (l && not m && req && not sts && (eqb s 1 || eqb s 2)) 3 s))
+stateBy s p q en l m req sts = cond (p && not q) 0 (cond (not p && q && en) 1 (cond (l && not m && q && req && not sts && (eqb s 1 || eqb s 2)) 3 s))
 
 abbrev tableBy : Bool → Bool → Bool → Bool → Bool → Bool → Bool → Table
 tableBy p q en l m req sts =
     let gone = p && not q in
     let come = not p && q && en in
-    let press = not gone && not come && l && not m && req && not sts in
+    let press = not gone && not come && (l && not m && q) && req && not sts in
     tickRows gone come press (not gone && not come && not press)
 
 -- The entry is the test for that state.
@@ -53,7 +53,7 @@ tick-table b h to k =
     moved :
         tickedBay b .state
         ≡ stateBy (b .state) (present b) (present (tickedBay b)) (b .control .«devstschg_en») (acceptedLevel b NREMREQ) (acceptedLevel (tickedBay b) NREMREQ) (b .control .«remreq_en») (b .«remreq_sts»)
-    moved = rw (present-after b, ← (press-after b))
+    moved = rw (← (heeded-after b), present-after b)
 
 -- ---- a write of BCER
 

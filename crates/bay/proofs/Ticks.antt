@@ -6,18 +6,20 @@ use mathlib.Core.List.{List, [], _∷_}
 use lib.Dec.{eqb, leb}
 use lib.ListN.{length, getD}
 use native.Mathlib.Omega.{arith}
+use borrow.Author.Tests.{not-true}
 use Rattle.bay.specs.Record.{N1394, NUSB, NREMREQ, TICKS, level, acceptedLevel, count, present, EMPTY, REMOVAL-ALLOWED, withInputs, withStatus}
 use Rattle.bay.specs.Debounce.{differs, debounce}
-use Rattle.bay.specs.Moves.{input, presentAfter, leaves, arrives, changes, pressed, stateAfter, controlAfter, requestedAfter, changedAfter, movedBay, tickedBay}
+use Rattle.bay.specs.Moves.{input, presentAfter, leaves, arrives, changes, pressed, heeded, stateAfter, controlAfter, requestedAfter, changedAfter, movedBay, tickedBay}
+use Rattle.bay.specs.Table.{pressOver}
 use Rattle.bay.specs.declared.Bay.{Bay}
 use Rattle.bay.specs.declared.Control.{Control}
 use Rattle.bay.specs.declared.Input.{Input}
 use Rattle.bay.proofs.Length.{counting}
 
--- A bay after its inputs, but for its state, DEVSTSCHG and BCER.
-abbrev pub after : Bay → Input → Input → Input → ℕ → Bool → Control → Bay
-after b n1394 nusb nremreq state chg control =
-    withStatus state (requestedAfter b (pressed nremreq)) chg control (b .pulse - 1)
+-- A bay after its inputs, but for its state, REMREQ_STS, DEVSTSCHG and BCER.
+abbrev pub after : Bay → Input → Input → Input → ℕ → Bool → Bool → Control → Bay
+after b n1394 nusb nremreq state req chg control =
+    withStatus state req chg control (b .pulse - 1)
     (withInputs (b .levels) (n1394 .accepted ∷ nusb .accepted ∷ nremreq .accepted ∷ [])
     (n1394 .count ∷ nusb .count ∷ nremreq .count ∷ []) (b .«n_sl») b)
 
@@ -25,14 +27,16 @@ module _ (b : Bay) (n1394 nusb nremreq : Input) where
   pub left :
       leaves b n1394 nusb ≡ true
       → movedBay b n1394 nusb nremreq
-      ≡ after b n1394 nusb nremreq EMPTY (changedAfter b (changes n1394 nusb) (eqb (b .state) REMOVAL-ALLOWED && not (b .control .«remevtwak_en»))) (controlAfter true (b .control))
+      ≡ after b n1394 nusb nremreq EMPTY (b .«remreq_sts») (changedAfter b (changes n1394 nusb) (eqb (b .state) REMOVAL-ALLOWED && not (b .control .«remevtwak_en»))) (controlAfter true (b .control))
   unfolding movedBay stateAfter
-  left e = rw (e, and-true, and-false)
+  left e =
+      let absent = not-true (presentAfter n1394 nusb) (and-eq-true-iff (present b) (not (presentAfter n1394 nusb)) .0 e .1) in
+      rw (e, absent, and-true) (simp (and-false, or-false))
 
   pub stayed :
       leaves b n1394 nusb ≡ false
       → movedBay b n1394 nusb nremreq
-      ≡ after b n1394 nusb nremreq (stateAfter b false (arrives b n1394 nusb) (pressed nremreq)) (b .devstschg || changes n1394 nusb) (b .control)
+      ≡ after b n1394 nusb nremreq (stateAfter b false (arrives b n1394 nusb) (heeded n1394 nusb nremreq)) (requestedAfter b (heeded n1394 nusb nremreq)) (b .devstschg || changes n1394 nusb) (b .control)
   unfolding movedBay
   stayed e = rw (e, and-false) (simp and-true)
 
@@ -111,3 +115,7 @@ press-after b = ap (λ t. t && not (input b NREMREQ .accepted)) (accepts-other T
     fell true false = refl
     fell false true = refl
     fell false false = refl
+
+-- .. and so does a heeded press.
+pub heeded-after : (b : Bay) → heeded (input b N1394) (input b NUSB) (input b NREMREQ) ≡ pressOver b (tickedBay b)
+heeded-after b = rw (press-after b, present-after b)

@@ -48,6 +48,11 @@ changes n1394 nusb = n1394 .settled || nusb .settled
 abbrev pub pressed : Input → Bool
 pressed nremreq = nremreq .settled && not (nremreq .accepted)
 
+-- It is heeded with a device present: presence of the same TICK is settled first, and a press on a bay then not present sets nothing
+-- (document 02, request 1).
+abbrev pub heeded : Input → Input → Input → Bool
+heeded n1394 nusb nremreq = pressed nremreq && presentAfter n1394 nusb
+
 -- A bay in Removal Allowed becomes not present with REMEVTWAK_EN clear.
 abbrev pub quiet : Bay → Input → Input → Bool
 quiet b n1394 nusb = eqb (b .state) REMOVAL-ALLOWED && leaves b n1394 nusb && not (b .control .«remevtwak_en»)
@@ -57,7 +62,8 @@ unfoldable pub inUse : Bay → Bool
 inUse b = eqb (b .state) INSERTED || eqb (b .state) ENABLED
 
 -- 1. Present to not present: Empty. Not present to present with DEVSTSCHG_EN: Inserted.
--- 2. If REMREQ_EN is 1, REMREQ_STS was 0 before this press, and step 1 gave no state, Inserted or Enabled goes to Removal Requested.
+-- 2. With a heeded press: if REMREQ_EN is 1, REMREQ_STS was 0 before this press, and step 1 gave no state, Inserted or Enabled goes to
+-- Removal Requested.
 unfoldable pub stateAfter : Bay → Bool → Bool → Bool → ℕ
 stateAfter b gone come press =
     cond gone EMPTY
@@ -76,7 +82,7 @@ controlAfter gone c =
       «pwr_ctl» = c .«pwr_ctl» && not gone;
     }
 
--- An accepted press sets REMREQ_STS, in any state.
+-- A heeded press sets REMREQ_STS, in any state.
 abbrev pub requestedAfter : Bay → Bool → Bool
 requestedAfter b press = b .«remreq_sts» || press
 
@@ -88,8 +94,8 @@ changedAfter b change silent = b .devstschg || change && not silent
 unfoldable pub movedBay : Bay → Input → Input → Input → Bay
 movedBay b n1394 nusb nremreq =
     withStatus
-    (stateAfter b (leaves b n1394 nusb) (arrives b n1394 nusb) (pressed nremreq))
-    (requestedAfter b (pressed nremreq))
+    (stateAfter b (leaves b n1394 nusb) (arrives b n1394 nusb) (heeded n1394 nusb nremreq))
+    (requestedAfter b (heeded n1394 nusb nremreq))
     (changedAfter b (changes n1394 nusb) (quiet b n1394 nusb))
     (controlAfter (leaves b n1394 nusb) (b .control))
     (b .pulse - 1)

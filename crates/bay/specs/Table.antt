@@ -31,11 +31,13 @@ gone b = present b && not (present (tickedBay b))
 abbrev pub come : Bay → Bool
 come b = not (present b) && present (tickedBay b) && b .control .«devstschg_en»
 
--- Neither, and the button is pressed with REMREQ_EN set and REMREQ_STS clear.
+-- The button is pressed over a device: nREMREQ as accepted goes from 1 to 0, and a device is present afterwards.
+abbrev pub pressOver : Bay → Bay → Bool
+pressOver before after = acceptedLevel before NREMREQ && not (acceptedLevel after NREMREQ) && present after
+
+-- Neither gone nor come, and a press over a device with REMREQ_EN set and REMREQ_STS clear.
 abbrev pub press : Bay → Bool
-press b =
-    not (gone b) && not (come b) && acceptedLevel b NREMREQ && not (acceptedLevel (tickedBay b) NREMREQ)
-    && b .control .«remreq_en» && not (b .«remreq_sts»)
+press b = not (gone b) && not (come b) && pressOver b (tickedBay b) && b .control .«remreq_en» && not (b .«remreq_sts»)
 
 -- None of these.
 abbrev pub calm : Bay → Bool

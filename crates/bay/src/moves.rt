@@ -26,40 +26,39 @@ impl Bay {
     }
 
     // The one move of a TICK in which no device leaves.
-    fn state_after(self, arrives: bool, pressed: bool) -> u8
-        ensures { λ r. ⌜ r ≡ stateAfter self false arrives pressed ⌝ }
+    fn state_after(self, arrives: bool, heeded: bool) -> u8
+        ensures { λ r. ⌜ r ≡ stateAfter self false arrives heeded ⌝ }
     {
         if arrives & self.control.devstschg_en {
             return Bay::INSERTED;
         }
-        if pressed & self.control.remreq_en & !self.remreq_sts & self.in_use() {
+        if heeded & self.control.remreq_en & !self.remreq_sts & self.in_use() {
             return Bay::REMOVAL_REQUESTED;
         }
         self.state
     }
 
-    // What the inputs of a TICK make of the bay.
+    // What the inputs of a TICK make of the bay. A press is heeded only over a device, so not as one leaves.
     fn moved(mut self, n1394: Input, nusb: Input, nremreq: Input) -> Bay
         ensures { λ r. ⌜ r ≡ movedBay self n1394 nusb nremreq ⌝ }
     {
         let before = self.present();
         let after = !n1394.accepted | !nusb.accepted;
         let changed = n1394.settled | nusb.settled;
-        let pressed = nremreq.settled & !nremreq.accepted;
+        let heeded = nremreq.settled & !nremreq.accepted & after;
         self.accepted = [n1394.accepted, nusb.accepted, nremreq.accepted];
         self.counts = [n1394.count, nusb.count, nremreq.count];
         self.pulse = fallen(self.pulse);
         if before & !after {
             let quiet = (self.state == Bay::REMOVAL_ALLOWED) & !self.control.remevtwak_en;
             self.state = Bay::EMPTY;
-            self.remreq_sts = self.remreq_sts | pressed;
             self.devstschg = self.devstschg | (changed & !quiet);
             self.control = self.control.released();
             return self;
         }
-        let state = self.state_after(!before & after, pressed);
+        let state = self.state_after(!before & after, heeded);
         self.state = state;
-        self.remreq_sts = self.remreq_sts | pressed;
+        self.remreq_sts = self.remreq_sts | heeded;
         self.devstschg = self.devstschg | changed;
         self
     }

@@ -98,6 +98,34 @@ moves =
     ∷ gives (R ++ w 0x14 0x04 ++ pins 0x9F ++ ticks 10 ++ w 0x14 0x0C) (reads 0x10 0x3D)
     ∷ []
 
+-- ---- the removal button (document 02, request 1)
+
+-- A press over no device sets nothing, in either bay, and neither does one in the TICK in which the device leaves; a request from before
+-- stays.
+abbrev over-nothing : List Example
+over-nothing =
+    gives (N ++ w 0x14 0x08 ++ pins 0xDF ++ ticks 10) (reads 0x10 0x00)
+    ∷ gives (N ++ w 0x1C 0x08 ++ pins 0xFD ++ ticks 10) (reads 0x18 0x00)
+    ∷ gives (R ++ w 0x14 0x2C ++ pins 0xDF ++ ticks 10) (reads 0x10 0x04)
+    ∷ gives (requested ++ pins 0xFF ++ ticks 10) (reads 0x10 0x0C)
+    ∷ []
+
+-- In the TICK in which a device arrives a press sets REMREQ_STS, and the arrival is the one move, if DEVSTSCHG_EN is 1. A TICK before, it
+-- sets nothing; a TICK later, it moves the bay. A button that is down when the cartridge comes asks for nothing until it is pressed
+-- again.
+abbrev held : List ℕ
+held = N ++ w 0x14 0x0C ++ pins 0xDF ++ ticks 10 ++ pins 0x9F ++ ticks 10
+
+abbrev with-arrival : List Example
+with-arrival =
+    gives (N ++ w 0x14 0x0C ++ pins 0x9F ++ ticks 10) (reads 0x10 0x1D)
+    ∷ gives (N ++ w 0x14 0x08 ++ pins 0x9F ++ ticks 10) (reads 0x10 0x0D)
+    ∷ gives (N ++ w 0x14 0x0C ++ pins 0xDF ++ ticks 1 ++ pins 0x9F ++ ticks 10) (reads 0x10 0x15)
+    ∷ gives (N ++ w 0x14 0x0C ++ pins 0xBF ++ ticks 1 ++ pins 0x9F ++ ticks 10) (reads 0x10 0x3D)
+    ∷ gives held (reads 0x10 0x15)
+    ∷ gives (held ++ pins 0xBF ++ ticks 10 ++ pins 0x9F ++ ticks 10) (reads 0x10 0x3D)
+    ∷ []
+
 -- ---- outputs
 
 -- Power, lock pin, green and the interrupt of bay 0; its yellow lamp; the same of bay 1.
@@ -183,4 +211,4 @@ inside =
 
 unfoldable pub ours : List Example
 ours =
-    unstarted ++ identity ++ bstr ++ bcer ++ letr ++ dbccr ++ moves ++ lamps ++ flashing ++ locks ++ answered ++ inside
+    unstarted ++ identity ++ bstr ++ bcer ++ letr ++ dbccr ++ moves ++ over-nothing ++ with-arrival ++ lamps ++ flashing ++ locks ++ answered ++ inside

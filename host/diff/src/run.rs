@@ -8,8 +8,8 @@ use crate::walk::{self, Way};
 use model::{Controller, MOST_WORDS};
 use trial::{lists, Random, Room};
 
-/// What dock_version answers: 2.0, accepted.
-const VERSION: u32 = 0x0200;
+/// What dock_version answers: 2.1, accepted.
+const VERSION: u32 = 0x0201;
 
 /// Kinds that pack is asked for: the eight and two that do not exist.
 const KINDS: u8 = 10;

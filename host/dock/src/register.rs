@@ -116,6 +116,7 @@ impl Status {
         self.bits & 0x80 != 0
     }
 
+    /// REMREQ_STS: the button was pressed with a device in the bay, and nobody has cleared it since.
     pub fn removal_requested(self) -> bool {
         self.bits & 0x08 != 0
     }

@@ -126,7 +126,8 @@ impl Bay {
         if changed & PRESENCE != 0 {
             moved = self.presence_changed(was_present);
         }
-        if changed & NREMREQ != 0 && self.accepted & NREMREQ == 0 {
+        let button_down = changed & NREMREQ != 0 && self.accepted & NREMREQ == 0;
+        if button_down && self.present() {
             self.pressed(moved);
         }
     }
@@ -166,7 +167,8 @@ impl Bay {
         false
     }
 
-    /// A press counts as a request only if the last one was cleared and nothing moved the bay in this tick.
+    /// A press with a device in the bay, by this tick's presence. It counts as a request only if the last one was
+    /// cleared and nothing moved the bay in this tick.
     fn pressed(&mut self, moved: bool) {
         let fresh = !self.remreq_status;
         self.remreq_status = true;

@@ -62,7 +62,6 @@ fn presses() -> Vec<Example> {
     let waiting = [&[R][..], &w(0x10, 0x04), &w(0x14, 0x20), &press()].concat();
     vec![
         example("a press", &[&pressed], vec![Reads(0x10, 0x39), Outputs(0x021)]),
-        example("a press in an Empty bay", &[&[N], &w(0x14, 0x08), &[pins(0xDF)], &ticks(10)], vec![Reads(0x10, 0x08)]),
         example("the driver's request stands", &[&kept, &ticks(1)], vec![Reads(0x10, 0x29)]),
         example("a second press, not cleared", &[&kept, &release(), &press()], vec![Reads(0x10, 0x29)]),
         example("a second press, cleared", &[&kept, &w(0x10, 0x08), &release(), &press()], vec![Reads(0x10, 0x39)]),
@@ -71,15 +70,36 @@ fn presses() -> Vec<Example> {
         example(".. waits for it", &[&waiting, &w(0x14, 0x08)], vec![Reads(0x10, 0x39)]),
         example(".. and a request goes first", &[&waiting, &w(0x14, 0x18)], vec![Reads(0x10, 0x19)]),
         example(
-            "presence goes before a press in one TICK",
-            &[&[N], &w(0x14, 0x0C), &[pins(0x9F)], &ticks(10)],
-            vec![Reads(0x10, 0x1D)],
-        ),
-        example(
             "a presence bit that gives no state lets a press move",
             &[&enabled, &[pins(0x1F)], &ticks(10)],
             vec![Reads(0x10, 0x3F)],
         ),
+    ]
+}
+
+/// Document 02, request 1: presence of the same tick first, and a press on a bay then not present sets nothing.
+fn presses_and_presence() -> Vec<Example> {
+    let told = [&[N][..], &w(0x14, 0x0C)].concat();
+    let untold = [&[N][..], &w(0x14, 0x08)].concat();
+    let enabled = [&[R][..], &w(0x10, 0x04), &w(0x14, 0x2C)].concat();
+    let settled = |levels: u8| [&[pins(levels)][..], &ticks(10)].concat();
+    let wiped = [&told[..], &settled(0xDF)].concat();
+    vec![
+        example("a press with no device", &[&wiped], vec![Reads(0x10, 0x00), Outputs(0)]),
+        example(".. in bay 1", &[&[N], &w(0x1C, 0x08), &settled(0xFD)], vec![Reads(0x18, 0x00), Outputs(0)]),
+        example(".. and the next cartridge", &[&wiped, &settled(0xFF), &settled(0xBF)], vec![Reads(0x10, 0x15)]),
+        example(".. with the button still down", &[&wiped, &settled(0x9F)], vec![Reads(0x10, 0x15)]),
+        example("a press as the device leaves", &[&enabled, &settled(0xDF)], vec![Reads(0x10, 0x04)]),
+        example("a press before the device leaves", &[&enabled, &press(), &settled(0xFF)], vec![Reads(0x10, 0x0C)]),
+        example(
+            ".. is there for the next cartridge",
+            &[&enabled, &press(), &settled(0xFF), &settled(0xBF)],
+            vec![Reads(0x10, 0x1D)],
+        ),
+        example("a press as a device arrives", &[&told, &press()], vec![Reads(0x10, 0x1D), Outputs(0x041)]),
+        example(".. without DEVSTSCHG_EN", &[&untold, &press()], vec![Reads(0x10, 0x0D), Outputs(0x001)]),
+        example("a press a tick before", &[&told, &[pins(0xDF), TICK], &press()], vec![Reads(0x10, 0x15)]),
+        example("a press a tick after", &[&told, &[pins(0xBF), TICK], &press()], vec![Reads(0x10, 0x3D)]),
     ]
 }
 
@@ -93,5 +113,5 @@ fn written_moves() -> Vec<Example> {
 }
 
 pub fn examples() -> Vec<Example> {
-    [presence(), debounce(), presses(), written_moves()].into_iter().flatten().collect()
+    [presence(), debounce(), presses(), presses_and_presence(), written_moves()].into_iter().flatten().collect()
 }

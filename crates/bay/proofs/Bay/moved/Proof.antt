@@ -9,9 +9,9 @@ use Rattle.bay.proofs.Bay.moved.Tie as tie
 
 returns : tie.Need-returns
 returns c =
-    let a = c .before .before .before .before .before .before .before .before .before .before .before .before .before .before .before .before .args in
-    let e : leaves (a .self) (a .n1394) (a .nusb) ≡ true = rw (← c .before .before .before .before .before .before .before .before .before .before .before .before .before .before .before .present .ensures) (c .before .before .before .before .before .if1 .taken) in
-    rw (left (a .self) (a .n1394) (a .nusb) (a .nremreq) e, c .before .before .before .before .before .before .fallen .ensures, c .released .ensures)
+    let a = c .before .before .before .before .before .before .before .before .before .before .before .before .before .before .before .args in
+    let e : leaves (a .self) (a .n1394) (a .nusb) ≡ true = rw (← c .before .before .before .before .before .before .before .before .before .before .before .before .before .before .present .ensures) (c .before .before .before .before .if1 .taken) in
+    rw (left (a .self) (a .n1394) (a .nusb) (a .nremreq) e, c .before .before .before .before .before .fallen .ensures, c .released .ensures)
 
 returns-2 : tie.Need-returns-2
 unfolding stateAfter inUse
