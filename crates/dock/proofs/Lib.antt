@@ -1,6 +1,7 @@
 pub mod Kept
 pub mod Laws
 pub mod Decided
+pub mod Remreq
 pub mod Refusals
 pub mod Replies
 pub mod Run

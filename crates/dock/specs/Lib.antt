@@ -7,3 +7,4 @@ pub mod Run
 pub mod Examples
 pub mod Ours
 pub mod Moves
+pub mod Remreq

@@ -29,14 +29,14 @@ put-each P i b bs p j = go (eqb i 0) (eqb j 0)
     go false true h = h
     go false false h = p
 
--- A bay put in the place of one with the same state leaves every state as it was.
-pub put-keeps : (i j : ℕ) (b : Bay) (bs : List Bay) → b .state ≡ bayIn bs i .state → bayIn (placed i b bs) j .state ≡ bayIn bs j .state
+-- A bay put in the place of one with the same field leaves that field of every bay as it was.
+pub put-keeps : {A : Type 0} (field : Bay → A) (i j : ℕ) (b : Bay) (bs : List Bay) → field b ≡ field (bayIn bs i) → field (bayIn (placed i b bs) j) ≡ field (bayIn bs j)
 unfolding bayIn placed two
-put-keeps i j b bs = go (eqb i 0) (eqb j 0)
+put-keeps field i j b bs = go (eqb i 0) (eqb j 0)
   where
     go :
-        (t u : Bool) → b .state ≡ cond t (bay0 bs) (bay1 bs) .state
-        → cond u (bay0 (two t b bs)) (bay1 (two t b bs)) .state ≡ cond u (bay0 bs) (bay1 bs) .state
+        (t u : Bool) → field b ≡ field (cond t (bay0 bs) (bay1 bs))
+        → field (cond u (bay0 (two t b bs)) (bay1 (two t b bs))) ≡ field (cond u (bay0 bs) (bay1 bs))
     go true true h = h
     go true false h = refl
     go false true h = refl

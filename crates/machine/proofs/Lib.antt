@@ -11,4 +11,5 @@ pub mod Laws
 pub mod Map
 pub mod Drives
 pub mod Moves
+pub mod Remreq
 pub mod Determined

@@ -11,6 +11,7 @@ use borrow.Author.Tests.{eqb-true, not-true}
 use Rattle.bits.specs.Straps.{lockMode}
 use Rattle.bay.specs.declared.Bay.{Bay}
 use Rattle.bay.specs.Record.{emptyBay, resetBay}
+use Rattle.bay.specs.Debounce.{sampledBay}
 use Rattle.bay.specs.Moves.{tickedBay}
 use Rattle.bay.specs.Registers.{controlOf, controlledBay}
 use Rattle.bay.proofs.Taut.{pick}
@@ -36,13 +37,14 @@ pub record Moves (m : Machine) (i : ℕ) : Type 0 where
   pub closing : (v : ℕ) → closes m 1 0x0C v ≡ true → bayAt (does (Write 0x0C v) m) 1 .state ≡ 0
   pub reset : (straps levels : ℕ) → bayAt (does (Reset straps levels) m) i .state ≡ 0
 
-ticked-open : (m : Machine) (i : ℕ) → isOpen m i ≡ true → bayAt (tickTo m) i ≡ tickedBay (bayAt m i)
+-- A TICK makes of each bay what it makes of an open one, and passes a closed one by.
+pub ticked-each : (m : Machine) (i : ℕ) → bayAt (tickTo m) i ≡ cond (isOpen m i) (tickedBay (bayAt m i)) (bayAt m i)
 unfolding tickTo tickedAt bayIn openBy
-ticked-open m i = go (eqb i 0)
+ticked-each m i = go (eqb i 0)
   where
-    go : (z : Bool) → (z || isOpen m 1) ≡ true → cond z (tickedAt m 0) (tickedAt m 1) ≡ tickedBay (cond z (bayAt m 0) (bayAt m 1))
-    go true o = refl
-    go false o = rw (chosen o)
+    go : (z : Bool) → cond z (tickedAt m 0) (tickedAt m 1) ≡ cond (z || isOpen m 1) (tickedBay (cond z (bayAt m 0) (bayAt m 1))) (cond z (bayAt m 0) (bayAt m 1))
+    go true = refl
+    go false = refl
 
 reset-empty : (straps levels i : ℕ) → bayAt (resetTo straps levels) i .state ≡ 0
 unfolding resetTo resetBay
@@ -69,7 +71,7 @@ pub moves : (m : Machine) (i : ℕ) → i < 2 → Moves m i
 unfolding does
 moves m i l =
     record {
-      tick = ticked-open m i;
+      tick = λ o. ticked-each m i ∙ chosen o _ _;
       bcer = λ v o. ap (λ t. bayAt t i) (controlled v m i l) ∙ open-written v m i o;
       closing = λ v h. closed-empty v m h;
       reset = λ straps levels. reset-empty straps levels i;
@@ -80,26 +82,27 @@ moves m i l =
 Still : Machine → ℕ → Machine → Type 0
 Still m i after = bayAt after i .state ≡ bayAt m i .state
 
-sampled-still : (m : Machine) (i levels : ℕ) → sampledAt m i levels .state ≡ bayAt m i .state
-unfolding sampledAt
-sampled-still m i levels = pick (λ (b : Bay). b .state ≡ bayAt m i .state) (isOpen m i) (λ o. sampled levels (bayAt m i) .state-kept) (λ o. refl)
+-- PINS keeps each field of a bay that a sample keeps.
+pub pins-keep :
+    {A : Type 0} (field : Bay → A) → ((levels : ℕ) (b : Bay) → field (sampledBay levels b) ≡ field b)
+    → (levels : ℕ) (m : Machine) (i : ℕ) → field (bayAt (pinsTo levels m) i) ≡ field (bayAt m i)
+unfolding pinsTo sampledAt bayIn
+pins-keep field kept levels m i = go (eqb i 0)
+  where
+    at-bay : (j n : ℕ) → field (sampledAt m j n) ≡ field (bayAt m j)
+    at-bay j n = pick (λ (b : Bay). field b ≡ field (bayAt m j)) (isOpen m j) (λ o. kept n (bayAt m j)) (λ o. refl)
+
+    go : (z : Bool) → field (cond z (sampledAt m 0 (levels / 16)) (sampledAt m 1 (levels % 16))) ≡ field (cond z (bayAt m 0) (bayAt m 1))
+    go true = at-bay 0 (levels / 16)
+    go false = at-bay 1 (levels % 16)
 
 pins-still : (levels : ℕ) (m : Machine) (i : ℕ) → Still m i (pinsTo levels m)
-unfolding pinsTo bayIn Still
-pins-still levels m i = go (eqb i 0)
-  where
-    go : (z : Bool) → cond z (sampledAt m 0 (levels / 16)) (sampledAt m 1 (levels % 16)) .state ≡ cond z (bayAt m 0) (bayAt m 1) .state
-    go true = sampled-still m 0 (levels / 16)
-    go false = sampled-still m 1 (levels % 16)
+unfolding Still
+pins-still = pins-keep (λ b. b .state) (λ levels b. sampled levels b .state-kept)
 
--- A closed bay is passed by.
 tick-still : (m : Machine) (i : ℕ) → isOpen m i ≡ false → Still m i (tickTo m)
-unfolding tickTo tickedAt bayIn openBy Still
-tick-still m i = go (eqb i 0)
-  where
-    go : (z : Bool) → (z || isOpen m 1) ≡ false → cond z (tickedAt m 0) (tickedAt m 1) .state ≡ cond z (bayAt m 0) (bayAt m 1) .state
-    go true o = absurd (true≢false o)
-    go false o = rw (passed o)
+unfolding Still
+tick-still m i o = ap (λ (b : Bay). b .state) (ticked-each m i ∙ passed o _ _)
 
 dbccr-still : (v : ℕ) (m : Machine) (i : ℕ) → (eqb (v % 4) 1 && not (m .shared .«dbccr_written») && not (eqb i 0)) ≡ false → Still m i (dbccrWrite v m)
 unfolding dbccrWrite dbccrStored bayIn Still
@@ -112,7 +115,7 @@ dbccr-still v m i h = pick (Still m i) (m .shared .«dbccr_written») (λ d. ref
 
 bstr-still : (j v : ℕ) (m : Machine) (i : ℕ) → Still m i (bstrWrite j v m)
 unfolding bstrWrite Still
-bstr-still j v m i = pick (Still m i) (isOpen m j) (λ o. put-keeps j i _ (m .bays) (bstr-clears v (bayAt m j) .state-kept)) (λ o. refl)
+bstr-still j v m i = pick (Still m i) (isOpen m j) (λ o. put-keeps (λ b. b .state) j i _ (m .bays) (bstr-clears v (bayAt m j) .state-kept)) (λ o. refl)
 
 -- The other bay's BCER, or the own of a closed bay.
 bcer-still : (j v : ℕ) (m : Machine) (i : ℕ) → (eqb j 0 ≡ not (eqb i 0)) ⊎ (isOpen m j ≡ false) → Still m i (bcerWrite j v m)

@@ -5,3 +5,4 @@ pub mod Acts
 pub mod Sound
 pub mod Kept
 pub mod Moves
+pub mod Remreq
