@@ -10,6 +10,7 @@
 
 mod compare;
 mod counts;
+mod presses;
 mod run;
 mod shrink;
 mod sides;

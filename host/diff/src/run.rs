@@ -2,6 +2,7 @@
 
 use crate::compare::{self, Mismatch, Question};
 use crate::counts::Counts;
+use crate::presses::Presses;
 use crate::sides::{HELD, LIBRARY, MODEL, PLAIN};
 use crate::tell::{self, call_agrees, Failure};
 use crate::walk::{self, Way};
@@ -13,6 +14,9 @@ const VERSION: u32 = 0x0201;
 
 /// Kinds that pack is asked for: the eight and two that do not exist.
 const KINDS: u8 = 10;
+
+/// From so many generated words on, each kind of press must have come.
+const TELLING: usize = 100_000;
 
 /// Up to here a list is short enough for the C controller to be asked all 256 addresses, each from the whole list.
 const SHORT_LIST: usize = 40;
@@ -100,13 +104,22 @@ impl Run {
 
     fn generated(&mut self, words: usize) -> Result<(), Failure> {
         let enough = self.counts.words + words;
+        self.counts.held.presses = Presses::default();
         while self.counts.words < enough {
             self.random = Random::new(self.seed, self.counts.lists as u64 + 1);
             let length = lists::length(&mut self.random);
             let words = lists::list(&mut self.random, length);
             self.list(&words)?;
         }
-        Ok(())
+        self.rules_told_apart(words)
+    }
+
+    fn rules_told_apart(&self, words: usize) -> Result<(), Failure> {
+        let presses = &self.counts.held.presses;
+        if words < TELLING || presses.all_came() {
+            return Ok(());
+        }
+        Err(Failure(format!("seed {}: the lists can't tell one press rule from another: {}\n", self.seed, presses)))
     }
 
     /// All that is asked of one list.

@@ -1,6 +1,7 @@
 //! A list of words through one held state: begun, given the words by and by, with questions and refused calls between.
 
 use crate::compare::Mismatch;
+use crate::presses::Presses;
 use crate::sides::LIBRARY;
 use trial::{held, lists, Held, Random, Room, TOO_MANY};
 
@@ -18,6 +19,7 @@ pub struct Counts {
     pub readings: usize,
     pub outputs: usize,
     pub refused: usize,
+    pub presses: Presses,
 }
 
 impl std::ops::AddAssign for Counts {
@@ -27,6 +29,7 @@ impl std::ops::AddAssign for Counts {
         self.readings += more.readings;
         self.outputs += more.outputs;
         self.refused += more.refused;
+        self.presses += more.presses;
     }
 }
 
@@ -72,7 +75,12 @@ impl Walk {
 
     fn step(&mut self, held: &mut Held, word: u16) -> Result<usize, held::Mismatch> {
         self.counts.steps += 1;
+        if word != TICK {
+            return held.step(word).map(|()| 1);
+        }
+        let before = held.bytes().to_vec();
         held.step(word)?;
+        self.counts.presses.count(&before, held.bytes());
         Ok(1)
     }
 

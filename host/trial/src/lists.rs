@@ -22,7 +22,8 @@ const LONG_RUNS: [usize; 9] = [13, 49, 50, 51, 99, 100, 101, 199, 200];
 
 /// The bit of each input of bay 0 in the levels; bay 1's are four places lower.
 const BUTTON: u8 = 0x20;
-const PRESENCE: [u8; 3] = [0x80, 0x40, 0xC0];
+const BOTH: u8 = 0xC0;
+const PRESENCE: [u8; 3] = [0x80, 0x40, BOTH];
 
 /// How long lists are, mostly short, so that many beginnings are seen.
 pub fn length(random: &mut Random) -> usize {
@@ -94,7 +95,8 @@ impl Writer<'_> {
             58 | 59 => self.babble(),
             60..=64 => self.flip_pins(),
             65..=76 => self.move_device(),
-            77..=84 => self.press_button(),
+            77..=82 => self.press_button(),
+            83 | 84 => self.press_about_a_move(),
             85..=88 => self.ticks(&SHORT_RUNS),
             89 => self.ticks(&LONG_RUNS),
             90..=92 => self.noise(),
@@ -283,6 +285,25 @@ impl Writer<'_> {
             self.store_levels(self.levels | button);
             self.settle();
         }
+    }
+
+    /// A device comes or goes, and the button goes down so that both are accepted in one tick, or the button in the
+    /// tick before or after.
+    fn press_about_a_move(&mut self) {
+        let bay = self.random.pick(&[0, 4]);
+        let (button, either) = (BUTTON >> bay, BOTH >> bay);
+        self.store_levels(self.levels | button);
+        self.run(10);
+        let moved = if self.levels & either == either {
+            self.levels & !(self.random.pick(&PRESENCE) >> bay)
+        } else {
+            self.levels | either
+        };
+        let first = self.random.pick(&[self.levels & !button, moved, moved & !button]);
+        self.store_levels(first);
+        self.run(1);
+        self.store_levels(moved & !button);
+        self.run(10);
     }
 
     /// Ten ticks mostly, in one run or around something else.
