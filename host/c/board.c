@@ -1,7 +1,8 @@
 /* A board made of text: stands in for the pins, the bus, the timer and the memory of a real one. It reads a script, one
  * thing that happens on a line, and prints what the firmware drives and answers. Nothing here is to be copied.
  *
- *   straps H, pins HH     how the straps are wired; the inputs change, with an interrupt where the power is on
+ *   straps H, pins HH     how the straps are wired, and 100 more for the short unlock pulse; the inputs change, with an
+ *                         interrupt where the power is on
  *   power, cut            the power comes, or goes
  *   cut after N           the power goes while the next save writes, after N bytes of it
  *   tick N                N ticks of the timer, the loop between each
@@ -28,13 +29,16 @@
 #define NONE_ASSERTED 0xFF
 
 struct event {
-    uint8_t kind, first, second;
+    uint8_t kind;
+    uint16_t first;
+    uint8_t second;
     unsigned times;
 };
 
 static struct firmware dock;
 static uint8_t memory[MEMORY_BYTES]; /* FFh from its maker */
-static uint8_t straps, levels = NONE_ASSERTED;
+static uint16_t straps;
+static uint8_t levels = NONE_ASSERTED;
 static uint16_t driven;
 static int powered, listening;
 static unsigned written, written_from, writes_left = NEVER;
@@ -44,7 +48,7 @@ static unsigned events_coming, next_event;
 
 /* ---- what the firmware asks ---- */
 
-uint8_t board_straps(void) { return straps; }
+uint16_t board_straps(void) { return straps; }
 uint8_t board_levels(void) { return levels; }
 void board_listen(void) { listening = 1; }
 
@@ -96,7 +100,7 @@ static void fail(const char *line) {
     exit(2);
 }
 
-static void add(uint8_t kind, uint8_t first, uint8_t second, unsigned times) {
+static void add(uint8_t kind, uint16_t first, uint8_t second, unsigned times) {
     struct event event = {kind, first, second, times};
     coming[events_coming++] = event;
 }
@@ -144,8 +148,8 @@ static void flood(unsigned count, struct event last) {
 }
 
 static void flood_pins(unsigned count, unsigned value) {
-    struct event pins = {DOCK_PINS, (uint8_t)value, 0, 1};
-    levels = pins.first;
+    levels = (uint8_t)value;
+    struct event pins = {DOCK_PINS, levels, 0, 1};
     flood(count, pins);
 }
 
@@ -173,7 +177,7 @@ static void change_pins(unsigned value) {
 static int play_outside(const char *line) {
     unsigned a, b;
     if (sscanf(line, "straps %x", &a) == 1) {
-        straps = (uint8_t)a;
+        straps = (uint16_t)a;
     } else if (sscanf(line, "pins %x", &a) == 1) {
         change_pins(a);
     } else if (sscanf(line, "memory %u %x", &a, &b) == 2 && a < MEMORY_BYTES) {

@@ -4,8 +4,9 @@
 
 #include <stdint.h>
 
-/* As wired: SMB_A1, SMB_A0, LOCK_DEF, LOCK_MODE, so at most 15. Above that the firmware keeps everything off. */
-uint8_t board_straps(void);
+/* RESET's first number. The straps as wired: SMB_A1, SMB_A0, LOCK_DEF, LOCK_MODE, so at most 15; above that the firmware
+ * keeps everything off. Beside them DOCK_SHORT_PULSE, where the dock was built on the short unlock pulse. */
+uint16_t board_straps(void);
 
 /* The eight inputs as they are now: n1394, nUSB, nREMREQ, nSL of bay 0, then of bay 1. */
 uint8_t board_levels(void);

@@ -316,9 +316,12 @@ static void test_save(void) {
     }
 }
 
-/* Every word, by the bits that document 01 leaves its kind. */
+/* The short pulse in bit 24, straps and levels in bits 11-0. */
+static uint32_t reset_numbers(uint16_t data) { return (uint32_t)(data >> 12) << 24 | (data & 0x0FFFu); }
+
+/* Every word, by the bits that documents 01 and 02 leave its kind. */
 static void test_words(void) {
-    static const uint16_t data[8] = {0x0000, 0x0000, 0x00FF, 0x0001, 0x00FF, 0x0000, 0x0FFF, 0x0000};
+    static const uint16_t data[8] = {0x0000, 0x0000, 0x00FF, 0x0001, 0x00FF, 0x0000, 0x1FFF, 0x0000};
     unsigned taken = 0;
     for (unsigned long number = 0; number <= 0xFFFF; number++) {
         uint16_t word = (uint16_t)number;
@@ -329,11 +332,16 @@ static void test_words(void) {
             continue;
         }
         taken++;
-        CHECK(unpacked == (dock_kind(word) == DOCK_RESET ? low : (uint32_t)low << 8));
+        CHECK(unpacked == (dock_kind(word) == DOCK_RESET ? reset_numbers(low) : (uint32_t)low << 8));
+        CHECK(dock_refusal(unpacked) == DOCK_ACCEPTED);
         CHECK(dock_pack(dock_kind(word), dock_first(unpacked), dock_second(unpacked)) == word);
     }
-    CHECK(taken == 4614);
+    CHECK(taken == 8710);
     CHECK(dock_pack(DOCK_RESET, 16, 0) == 0x00060000u);
+    CHECK(dock_pack(DOCK_RESET, DOCK_SHORT_PULSE | 16, 0) == 0x00060000u);
+    CHECK(dock_pack(DOCK_RESET, DOCK_SHORT_PULSE | 1, 0xFF) == 0xD1FFu);
+    CHECK(dock_pack(DOCK_RESET, 2 * DOCK_SHORT_PULSE, 0) == 0x00020000u);
+    CHECK(dock_pack(DOCK_BYTE, 0x190, 0) == 0x00020000u);
     CHECK(dock_pack(DOCK_TAKE, 2, 0) == 0x00020000u);
     CHECK(dock_pack(DOCK_TICK, 0, 1) == 0x00020000u);
     CHECK(dock_pack(8, 0, 0) == 0x00020000u);

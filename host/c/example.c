@@ -38,15 +38,17 @@ static void tell_data(uint16_t word, char *text, size_t size) {
     case DOCK_BYTE:
     case DOCK_PINS: snprintf(text, size, " %02Xh", first); break;
     case DOCK_TAKE: snprintf(text, size, "%s", first == 1 ? ", ACK" : ", NACK"); break;
-    case DOCK_RESET: snprintf(text, size, " %Xh %02Xh", first, second); break;
+    case DOCK_RESET:
+        snprintf(text, size, " %Xh %02Xh%s", first & 0xFFu, second, first & DOCK_SHORT_PULSE ? ", short pulse" : "");
+        break;
     default: snprintf(text, size, "%s", ""); break;
     }
 }
 
 static void print_event(uint16_t word) {
     static const char *const names[8] = {"START", "STOP", "BYTE", "TAKE", "PINS", "TICK", "RESET", "TIMEOUT"};
-    char data[16];
-    char text[32];
+    char data[32];
+    char text[48];
     tell_data(word, data, sizeof data);
     snprintf(text, sizeof text, "%s%s", names[dock_kind(word)], data);
     printf("%04X  %-12s", (unsigned)word, text);

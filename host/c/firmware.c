@@ -11,7 +11,7 @@ static uint16_t timeout_word(void) { return dock_value(dock_pack(DOCK_TIMEOUT, 0
 static uint16_t levels_word(void) { return dock_value(dock_pack(DOCK_PINS, board_levels(), 0)); }
 
 /* A RESET is never just lost: the loop makes up for it, and what comes after it waits for that. */
-int firmware_event(struct firmware *dock, uint8_t kind, uint8_t first, uint8_t second) {
+int firmware_event(struct firmware *dock, uint8_t kind, uint16_t first, uint8_t second) {
     uint32_t packed = dock_pack(kind, first, second);
     if (dock_refusal(packed) == DOCK_ACCEPTED && ring_put(&dock->waiting, dock_value(packed))) {
         return 1;
@@ -70,8 +70,8 @@ static int go_on(struct firmware *dock) {
         return 0;
     }
     memcpy(dock->state, dock->saved, sizeof dock->state);
-    return dock->state[DOCK_AT_STRAPS] == board_straps() && give(dock, timeout_word()) == DOCK_ACCEPTED &&
-           give(dock, levels_word()) == DOCK_ACCEPTED;
+    return dock->state[DOCK_AT_STRAPS] == (board_straps() & ~DOCK_SHORT_PULSE) &&
+           give(dock, timeout_word()) == DOCK_ACCEPTED && give(dock, levels_word()) == DOCK_ACCEPTED;
 }
 
 /* The interrupts come on before the levels are sampled, so that no change falls between the two. */

@@ -20,6 +20,6 @@ void firmware_run(struct firmware *dock);
 /* What every interrupt calls: the bus for START, STOP, BYTE, TAKE and TIMEOUT, the inputs for PINS, the timer for TICK
  * every ten milliseconds, the reset line for RESET. 0 where there is no room, or no event has these numbers: then the
  * interrupt answers a BYTE without ACK, and a TAKE with FFh, itself. A RESET is made up for by the loop. */
-int firmware_event(struct firmware *dock, uint8_t kind, uint8_t first, uint8_t second);
+int firmware_event(struct firmware *dock, uint8_t kind, uint16_t first, uint8_t second);
 
 #endif

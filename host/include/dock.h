@@ -1,4 +1,4 @@
-/* The proved controller of a two-bay cartridge dock, version 2.1, for C99 or C++11 and newer.
+/* The proved controller of a two-bay cartridge dock, version 3.0, for C99 or C++11 and newer.
  *
  * A program holds the controller's state as DOCK_STATE_BYTES bytes and gives it one event at a time:
  *
@@ -43,15 +43,22 @@ extern "C" {
  * rises where a program that was built on an older header would misread or misuse a call, the second where it would
  * not.
  *
- * Before version 2, dock_reading and dock_outputs took words where they take a state now, and dock_unpack had a layout
- * of its own. A program that was built on such a header must be built again.
+ * Since 3.0 a RESET starts LETR at 1, a pulse of 50 ticks, and not at 0, one of 12. A dock that was built on the short
+ * pulse says so in each RESET: DOCK_SHORT_PULSE beside the straps, bit 12 of the word, which is refused no more. For it
+ * dock_pack's first number has 16 bits, and dock_unpack tells it in bit 24, above the refusal. A program that was built
+ * on an older header packs as it did, and takes an unpacked RESET with the short pulse for a word that is refused with
+ * 256; every other answer has the layout that it had. It is to be built again all the same, by someone who knows which
+ * pulse its dock was built on.
  *
- * Since 2.1 a press of the removal button counts only with a device in the bay: over none, REMREQ_STS stays as it is. */
-#define DOCK_VERSION 0x0201u
+ * Since 2.1 a press of the removal button counts only with a device in the bay: over none, REMREQ_STS stays as it is.
+ *
+ * Before version 2, dock_reading and dock_outputs took words where they take a state now, and dock_unpack had a layout
+ * of its own. A program that was built on such a header must be built again. */
+#define DOCK_VERSION 0x0300u
 
 /* Bits of words and answers, numbers of events, replies and refusals that this header does not name are 0 or not given
- * in this version. A later one may use them (RESET's word is to grow by a bit), and then has a higher first number. A
- * program that begins by asking dock_fits_header() misreads nothing silently. */
+ * in this version. A later one may use them, and then has a higher first number. A program that begins by asking
+ * dock_fits_header() misreads nothing silently. */
 uint32_t dock_version(void); /* value: as DOCK_VERSION */
 static inline int dock_fits_header(void) { return dock_version() >> 8 == DOCK_VERSION >> 8; }
 
@@ -68,9 +75,13 @@ enum dock_kind_number {
     DOCK_TAKE = 3,   /* first: 1 if the host ACKs the byte it clocks in, else 0 */
     DOCK_PINS = 4,   /* first: levels n1394, nUSB, nREMREQ, nSL of bay 0, then of bay 1; 0 is asserted */
     DOCK_TICK = 5,   /* ten milliseconds */
-    DOCK_RESET = 6,  /* first: straps SMB_A1, SMB_A0, LOCK_DEF, LOCK_MODE; second: levels */
+    DOCK_RESET = 6,  /* first: straps SMB_A1, SMB_A0, LOCK_DEF, LOCK_MODE, or DOCK_SHORT_PULSE; second: levels */
     DOCK_TIMEOUT = 7 /* the bus clock was held low too long */
 };
+
+/* RESET's first number has this beside its straps where LETR is to start at 0, a pulse of 12 ticks, and not at 1, one of
+ * 50 ticks. It is LETR's start only: a driver can write LETR as ever. */
+#define DOCK_SHORT_PULSE 0x100u
 
 /* The refusals, by call. "call": the call refuses. "record": the record of that word says so, and the call goes on.
  * dock_version gives 0 only.
@@ -118,7 +129,8 @@ enum dock_output {
     DOCK_INTERRUPT = 0x001
 };
 
-/* ---- calls: all but dock_step answer the refusal in bits 31-16 and a value in bits 15-0, 0 with a refusal ---- */
+/* ---- calls: all but dock_step answer the refusal in bits 23-16 and a value in bits 15-0, 0 with a refusal; bits 31-24
+ * are 0 but where dock_unpack uses them ---- */
 
 /* Writes the image of a fresh state, which has had no RESET yet. Value: 0. */
 uint32_t dock_begin(uint8_t *state, size_t state_len);
@@ -144,16 +156,17 @@ uint32_t dock_outputs(const uint8_t *state, size_t state_len);
 uint32_t dock_replay(const uint16_t *words, size_t words_len, uint8_t *records, size_t records_len);
 
 /* Value: the word of an event. Three numbers are no event's where the kind is above 7, a TAKE's first number is above
- * 1, or a number is set that the kind does not have. */
-uint32_t dock_pack(uint8_t kind, uint8_t first, uint8_t second);
+ * 1, a BYTE's or a PINS' above 255, a RESET's above 511, or a number is set that the kind does not have. */
+uint32_t dock_pack(uint8_t kind, uint16_t first, uint8_t second);
 
-/* Value: the two numbers of a word's event, the first in bits 15-8, the second in 7-0. */
+/* Value: the two numbers of a word's event, the first in bits 15-8, the second in 7-0. What the first has above a byte,
+ * which is RESET's short pulse, is in bits 31-24. */
 uint32_t dock_unpack(uint16_t word);
 
 /* ---- answers taken apart ---- */
 
 /* Of every call but dock_step. */
-static inline uint32_t dock_refusal(uint32_t answer) { return answer >> 16; }
+static inline uint32_t dock_refusal(uint32_t answer) { return answer >> 16 & 0xFFu; }
 static inline uint16_t dock_value(uint32_t answer) { return (uint16_t)(answer & 0xFFFFu); }
 
 /* dock_step's answer, or a record's four bytes as the same number. */
@@ -167,7 +180,9 @@ static inline uint16_t dock_record_outputs(uint32_t record) { return (uint16_t)(
 
 /* A word's kind, and the two numbers in dock_unpack's answer. */
 static inline uint8_t dock_kind(uint16_t word) { return (uint8_t)(word >> 13); }
-static inline uint8_t dock_first(uint32_t unpacked) { return (uint8_t)(unpacked >> 8 & 0xFFu); }
+static inline uint16_t dock_first(uint32_t unpacked) {
+    return (uint16_t)((unpacked >> 16 & 0xFF00u) | (unpacked >> 8 & 0xFFu));
+}
 static inline uint8_t dock_second(uint32_t unpacked) { return (uint8_t)(unpacked & 0xFFu); }
 
 /* ---- the image of a state, byte by byte: for reports and for tests, the calls need none of it ----

@@ -58,7 +58,8 @@ struct dock {
     struct bay bays[BAYS];
 };
 
-static const uint16_t data_bits[8] = {0, 0, 0x00FF, 0x0001, 0x00FF, 0, 0x0FFF, 0};
+enum { SHORT_PULSE = 0x1000 }; /* of a RESET: LETR starts at 0, not at 1 */
+static const uint16_t data_bits[8] = {0, 0, 0x00FF, 0x0001, 0x00FF, 0, 0x1FFF, 0};
 static const uint8_t pulse_ticks[4] = {12, 50, 100, 200};
 static const uint8_t input_bits[INPUTS] = {N1394, NUSB, NREMREQ};
 
@@ -250,10 +251,10 @@ static void write_register(struct dock *dock, uint8_t address, uint8_t value) {
     }
 }
 
-static void do_reset(struct dock *dock, uint8_t straps, uint8_t levels) {
+static void do_reset(struct dock *dock, uint8_t straps, uint8_t levels, bool short_pulse) {
     bool pulsing = straps & LOCK_MODE;
     uint8_t control = !pulsing && (straps & LOCK_DEF) ? LOCK_CTL : 0;
-    *dock = (struct dock){.started = true, .pulsing = pulsing, .open_bays = BAYS};
+    *dock = (struct dock){.started = true, .pulsing = pulsing, .open_bays = BAYS, .letr = short_pulse ? 0 : 1};
     dock->own = (uint8_t)(0x90 + 2 * (straps >> 2));
     reset_bay(&dock->bays[0], levels >> 4, control);
     reset_bay(&dock->bays[1], levels & 0xF, control);
@@ -337,7 +338,7 @@ static uint32_t step(struct dock *dock, uint16_t word) {
             break;
         case PINS: do_pins(dock, low); break;
         case TICK: do_tick(dock); break;
-        case RESET: do_reset(dock, word >> 8 & 0xF, low); break;
+        case RESET: do_reset(dock, word >> 8 & 0xF, low, word & SHORT_PULSE); break;
         case TIMEOUT: dock->command = IDLE; break;
         }
     }

@@ -133,10 +133,10 @@ bcer-pulses v mode ticks b =
       locking = λ h. rw (h, and-false);
     }
 
--- Each TICK takes one off it.
-pub pulse-falls : (b : Bay) (n : ℕ) → b .pulse ≡ n + 1 → tickedBay b .pulse ≡ n
+-- Each TICK takes one off it, where there is one.
+pub pulse-falls : (b : Bay) → tickedBay b .pulse ≡ b .pulse - 1
 unfolding tickedBay movedBay
-pulse-falls b n h = omega (arith, h)
+pulse-falls b = refl
 
 -- ---- outputs
 

@@ -17,7 +17,7 @@ use Rattle.script.specs.declared.Line.{Line}
 use Rattle.script.specs.declared.Line.the-variants.{Blank, Unknown, Misused, Mishandled, Does}
 use Rattle.script.specs.declared.Order.the-variants.{Event as One, Ticks, Write, Address, Load}
 use Rattle.script.proofs.OneWord.{load-argument, load-line}
-use Rattle.event.specs.Words.{wordOf, strapsOf, packed, Bytes}
+use Rattle.event.specs.Words.{unpacked, wordOf, strapsOf, packed, Bytes}
 use Rattle.event.specs.declared.Event.{Event}
 use Rattle.event.specs.declared.Event.the-variants.{Pins, Reset}
 use Rattle.event.specs.declared.Packed.the-variants.{Word}
@@ -45,19 +45,20 @@ use Rattle.bench.specs.declared.Bench.{Bench}
 
 -- What is typed as the paper writes it sends the words of the paper's examples P1 to P12, whatever the levels are.
 pub record AsInThePaper : Type 0 where
-  pub R-typed : (l : ℕ) → wordsOf 0x90 l (One (Reset 0 0xBF)) ≡ R
-  pub N-typed : (l : ℕ) → wordsOf 0x90 l (One (Reset 0 0xFF)) ≡ N
+  pub R-typed : (l : ℕ) → wordsOf 0x90 l (One (Reset 0 0xBF false)) ≡ R
+  pub N-typed : (l : ℕ) → wordsOf 0x90 l (One (Reset 0 0xFF false)) ≡ N
+  pub P12-typed : (l : ℕ) → wordsOf 0x90 l (One (Reset 1 0xFF true)) ≡ 0xD1FF ∷ []
   pub w-typed : (l r v : ℕ) → wordsOf 0x90 l (Write r v) ≡ w r v
   pub pins-typed : (l p : ℕ) → wordsOf 0x90 l (One (Pins p)) ≡ pins p
   pub ticks-typed : (l n : ℕ) → wordsOf 0x90 l (Ticks n) ≡ ticks n
 
 pub as-in-the-paper : AsInThePaper
 unfolding wordsOf packed wordOf strapsOf
-as-in-the-paper = record { R-typed = λ l. refl; N-typed = λ l. refl; w-typed = λ l r v. refl; pins-typed = λ l p. refl; ticks-typed = λ l n. refl }
+as-in-the-paper = record { R-typed = λ l. refl; N-typed = λ l. refl; P12-typed = λ l. refl; w-typed = λ l r v. refl; pins-typed = λ l p. refl; ticks-typed = λ l n. refl }
 
 -- Each of the examples sends the words written there.
 pub examples-hold : map typedWords examples ≡ map (λ (e : Example). e .words) examples
-unfolding examples wordsOf pulled raised packed wordOf strapsOf indexOf lineOf plain textLine verbLine orderLine handLine insertLine pulls raises only bayOf kindOf given resetLine takeLine writeLine octetOf isOctet digitOf wordIn pairOf ticksOf countOf countFrom verbOf verbs name spelled spelled64 trimmed first rest leading blank
+unfolding examples unpacked wordsOf pulled raised packed wordOf strapsOf indexOf lineOf plain textLine verbLine orderLine handLine insertLine pulls raises only bayOf kindOf given resetLine takeLine writeLine octetOf isOctet digitOf wordIn pairOf ticksOf countOf countFrom verbOf verbs name spelled spelled64 trimmed first rest leading blank
 examples-hold = refl
 
 -- After `at 96` a whole write begins with that byte.

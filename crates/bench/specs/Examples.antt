@@ -69,6 +69,7 @@ stay =
 abbrev plain : List Example
 plain =
     from 0xFF "reset C0BF" (0xC0BF ∷ [])
+    ∷ from 0xFF "reset D1FF" (0xD1FF ∷ [])
     ∷ from 0xFF "pins 9F" (0x809F ∷ [])
     ∷ from 0xFF "tick 3" (0xA000 ∷ 0xA000 ∷ 0xA000 ∷ [])
     ∷ from 0xFF "w 14=04" (0x0000 ∷ 0x4090 ∷ 0x4014 ∷ 0x4004 ∷ 0x2000 ∷ [])

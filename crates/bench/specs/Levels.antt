@@ -34,7 +34,7 @@ givenBy (Byte b) l = l
 givenBy (Take ack) l = l
 givenBy (Pins p) l = p
 givenBy Tick l = l
-givenBy (Reset s p) l = p
+givenBy (Reset s p short) l = p
 givenBy Timeout l = l
 
 abbrev pub givenIn : Unpacked → ℕ → ℕ

@@ -2,6 +2,7 @@
 use crate::say::say;
 use crate::say::say_byte;
 use crate::say::say_either;
+use crate::say::say_if;
 use bus::Reply;
 use dock::Answer;
 use event::Event;
@@ -20,9 +21,14 @@ fn tell_event(event: Event) {
         Event::Take(ack) => say_either(ack, b"  TAKE with ACK", b"  TAKE with NACK"),
         Event::Pins(levels) => say_data(b"  PINS ", levels),
         Event::Tick => say(b"  TICK"),
-        Event::Reset { straps, levels } => {
+        Event::Reset {
+            straps,
+            levels,
+            short_pulse,
+        } => {
             say_data(b"  RESET with straps ", straps);
             say_data(b" and levels ", levels);
+            say_if(short_pulse, b", and the short pulse");
         }
         Event::Timeout => say(b"  TIMEOUT"),
     }
@@ -40,14 +46,7 @@ pub(crate) fn is_reset(word: u16) -> bool {
     let Unpacked::Accepted(event) = event::unpack(word) else {
         return false;
     };
-    if let Event::Reset {
-        straps: _,
-        levels: _,
-    } = event {
-        true
-    } else {
-        false
-    }
+    event.is_reset()
 }
 
 pub(crate) fn tell_address(address: u8) {

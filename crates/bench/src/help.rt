@@ -9,7 +9,7 @@ use script::Verb;
 fn say_use(verb: Verb) {
     match verb {
         Verb::Reset => say(
-            b"reset C0BF      RESET, by its word: straps in bits 11-8, levels in bits 7-0\n",
+            b"reset C0BF      RESET, by its word: straps in bits 11-8, levels in 7-0, short pulse in bit 12\n",
         ),
         Verb::Pins => say(
             b"pins BF         PINS: n1394, nUSB, nREMREQ, nSL of bay 0, then of bay 1; 0 is asserted\n",

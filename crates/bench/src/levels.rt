@@ -40,6 +40,7 @@ fn given_by(event: Event, levels: u8) -> u8
         Event::Reset {
             straps: _,
             levels: given,
+            short_pulse: _,
         } => given,
         Event::Timeout => levels,
     }

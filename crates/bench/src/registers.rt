@@ -13,6 +13,7 @@ use dock::Answer;
 use dock::Controller;
 use machine::Machine;
 use machine::Shared;
+use machine::pulse_ticks;
 
 fn say_dbccr(dbccr: u8) {
     let count = dbccr % 4;
@@ -48,6 +49,13 @@ fn say_bcer(bcer: u8) {
     say_if(has(bcer, 1), b", PWR_CTL");
 }
 
+// How long the pulse is that unlocks.
+fn say_letr(letr: u8) {
+    say(b": unlock pulse of ");
+    say_count(pulse_ticks(letr) as u64);
+    say(b" ticks");
+}
+
 fn say_name(register: u8) {
     match register {
         Machine::VENDOR_LOW => say(b" vendor, low byte,"),
@@ -68,6 +76,7 @@ fn say_meaning(register: u8, value: u8) {
         Machine::DBCCR => say_dbccr(value),
         Machine::BSTR_0 | Machine::BSTR_1 => say_bstr(value),
         Machine::BCER_0 | Machine::BCER_1 => say_bcer(value),
+        Machine::LETR => say_letr(value),
         _ => {}
     }
 }

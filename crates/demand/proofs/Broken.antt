@@ -106,7 +106,7 @@ breaks-same (spent {since = xs} {e = e} {b = b} i g) m q p v h =
     let n = passes m p xs v h i [] (rw (q, g)) (rw (q, g)) in
     n .left ∙ ap (with m) (none-open (m .straps) _ (n .held) (n .stands)) ∙ ap (run (with m Idle)) (sym (struck-bus i []))
 breaks-same timeout m q p v h = refl
-breaks-same (reset s levels) m q p v h = refl
+breaks-same (reset s levels short) m q p v h = refl
 
 -- From its opening START.
 pub broken-same : (m : Machine) (c : List Event) → BrokenOff (m .straps) c → run (with m Idle) c ≡ run (with m Idle) (struck c)
@@ -134,8 +134,8 @@ word-strike w ws further (Accepted (Pins levels)) p true = rw (p, p) (ap (λ l. 
 word-strike w ws further (Accepted (Pins levels)) p false = rw (p, p) (further false)
 word-strike w ws further (Accepted Tick) p true = rw (p, p) (ap (λ l. Tick ∷ l) (further true))
 word-strike w ws further (Accepted Tick) p false = rw (p, p) (further false)
-word-strike w ws further (Accepted (Reset straps levels)) p true = rw (p, p) (ap (λ l. Reset straps levels ∷ l) (further true))
-word-strike w ws further (Accepted (Reset straps levels)) p false = rw (p, p) (ap (λ l. Reset straps levels ∷ l) (further true))
+word-strike w ws further (Accepted (Reset straps levels short)) p true = rw (p, p) (ap (λ l. Reset straps levels short ∷ l) (further true))
+word-strike w ws further (Accepted (Reset straps levels short)) p false = rw (p, p) (ap (λ l. Reset straps levels short ∷ l) (further true))
 word-strike w ws further (Accepted Timeout) p true = rw (p, p) (ap (λ l. Timeout ∷ l) (further true))
 word-strike w ws further (Accepted Timeout) p false = rw (p, p) (further false)
 

@@ -199,5 +199,5 @@ module _ (m : Machine) (xs : List Bus) (v : ℕ) where
   event-lands p x (Take ack) = at-take ack p x
   event-lands p x (Pins levels) = record { since = xs; does-acts = refl; line = refl; stands = x; replies = refl }
   event-lands p x Tick = record { since = xs; does-acts = refl; line = refl; stands = x; replies = refl }
-  event-lands p x (Reset straps levels) = record { since = []; does-acts = refl; line = refl; stands = refl; replies = refl }
+  event-lands p x (Reset straps levels short) = record { since = []; does-acts = refl; line = refl; stands = refl; replies = refl }
   event-lands p x Timeout = record { since = []; does-acts = refl; line = refl; stands = refl; replies = refl }

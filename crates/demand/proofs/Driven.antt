@@ -69,7 +69,7 @@ held l (Byte b) r d = record { since = with-event l (BYTE b); line = on-bus l (B
 held l (Take ack) r d = record { since = with-event l (TAKE ack); line = on-bus l (TAKE ack) r d; deciding = d }
 held l (Pins levels) r d = let z : _≡_ {A = ℕ} 0 1 = cc in absurd (omega arith)
 held l Tick r d = let z : _≡_ {A = ℕ} 0 1 = cc in absurd (omega arith)
-held l (Reset straps levels) r d = let z : _≡_ {A = ℕ} 0 1 = cc in absurd (omega arith)
+held l (Reset straps levels short) r d = let z : _≡_ {A = ℕ} 0 1 = cc in absurd (omega arith)
 held l Timeout r d = absurd (omega (arith, ap length d))
 
 -- ---- until the TAKE

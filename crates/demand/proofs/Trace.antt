@@ -29,7 +29,7 @@ abbrev words : List ℕ
 words = 0xC0BF ∷ 0x0000 ∷ 0x4090 ∷ 0x4014 ∷ 0x4004 ∷ 0x2000 ∷ 0x0000 ∷ 0x4090 ∷ 0x4010 ∷ 0x0000 ∷ 0x4091 ∷ []
 
 pub record AsPrinted : Type 0 where
-  pub its-acts : actsOf silent (accepted false (words ++ (0x6000 ∷ []))) ≡ Reset 0 0xBF ∷ Write 0x14 0x04 ∷ Read 0x10 ∷ []
+  pub its-acts : actsOf silent (accepted false (words ++ (0x6000 ∷ []))) ≡ Reset 0 0xBF false ∷ Write 0x14 0x04 ∷ Read 0x10 ∷ []
   pub its-last-answer : plainAnswer words 0x6000 ≡ Done (Driven 0x15) 0x041
 
 pub trace-as-printed : AsPrinted

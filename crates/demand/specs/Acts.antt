@@ -45,7 +45,7 @@ hears l (Byte b) = onBus l (BYTE b)
 hears l (Take ack) = onBus l (TAKE ack)
 hears l (Pins levels) = l
 hears l Tick = l
-hears l (Reset straps levels) = record { straps = straps; since = [] }
+hears l (Reset straps levels short) = record { straps = straps; since = [] }
 hears l Timeout = record { straps = l .straps; since = [] }
 
 -- The acts that an event decides: one, or none.
@@ -56,7 +56,7 @@ decided l (Byte b) = decides (l .straps) (with-event l (BYTE b))
 decided l (Take ack) = decides (l .straps) (with-event l (TAKE ack))
 decided l (Pins levels) = act.Pins levels ∷ []
 decided l Tick = act.Tick ∷ []
-decided l (Reset straps levels) = act.Reset straps levels ∷ []
+decided l (Reset straps levels short) = act.Reset straps levels short ∷ []
 decided l Timeout = []
 
 -- Along a list of events: what has been heard, and the acts, in order.

@@ -24,7 +24,7 @@ pub data Breaks (straps : ℕ) : List Bus → List Event → Type 0 where
   -- The first bus event that isn't ends it, and so do TIMEOUT and RESET.
   spent : {since : List Bus} {e : Event} {b : Bus} → Is e b → goesOn straps (since ++ (b ∷ [])) ≡ false → Breaks straps since (e ∷ [])
   timeout : {since : List Bus} → Breaks straps since (Timeout ∷ [])
-  reset : {since : List Bus} (s levels : ℕ) → Breaks straps since (Reset s levels ∷ [])
+  reset : {since : List Bus} (s levels : ℕ) (short : Bool) → Breaks straps since (Reset s levels short ∷ [])
 
 -- From its opening START through the event that ends it.
 pub data BrokenOff (straps : ℕ) : List Event → Type 0 where
@@ -38,7 +38,7 @@ onTheBus (Byte b) = true
 onTheBus (Take ack) = true
 onTheBus (Pins levels) = false
 onTheBus Tick = false
-onTheBus (Reset straps levels) = false
+onTheBus (Reset straps levels short) = false
 onTheBus Timeout = false
 
 unfoldable pub struck : List Event → List Event

@@ -33,7 +33,7 @@ answered v (act.Write a b) m = v
 answered v (act.Read a) m = reading m a
 answered v (act.Pins levels) m = v
 answered v act.Tick m = v
-answered v (act.Reset straps levels) m = v
+answered v (act.Reset straps levels short) m = v
 
 unfoldable pub lastRead : ℕ → List Act → Machine → ℕ
 lastRead v [] m = v
@@ -51,7 +51,7 @@ replyBy l v (Byte b) = cond (goesOn (l .straps) (with-event l (BYTE b))) Ack NoA
 replyBy l v (Take ack) = cond (completes (l .straps) (with-event l (TAKE ack))) (Driven v) NotDriven
 replyBy l v (Pins levels) = Nothing
 replyBy l v Tick = Nothing
-replyBy l v (Reset straps levels) = Nothing
+replyBy l v (Reset straps levels short) = Nothing
 replyBy l v Timeout = Nothing
 
 -- The reply to an event that comes after others.

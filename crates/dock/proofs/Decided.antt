@@ -16,10 +16,11 @@ use Rattle.bus.specs.declared.Reply.the-variants.{NoAck, Driven}
 use Rattle.machine.specs.Record.{bayAt}
 use Rattle.machine.specs.Registers.{reading}
 use Rattle.machine.specs.Acts.{does}
+use Rattle.machine.specs.Moves.{movesBay}
 use Rattle.machine.specs.declared.Act.the-variants as act
 use Rattle.machine.proofs.Moves.{nothing-else-moves}
-use Rattle.dock.specs.Moves.{stopMoves, eventMoves}
-use Rattle.dock.specs.Events.{stopDeed, byteHeard, byteAt, takeReply, turnOf, done, next}
+use Rattle.dock.specs.Moves.{eventMoves}
+use Rattle.dock.specs.Events.{atStop, stopDeed, byteHeard, byteAt, takeReply, turnOf, done, next}
 use Rattle.dock.specs.declared.Controller.{Controller}
 use Rattle.dock.proofs.Laws.{pins-passed-over, tick-passed-over}
 
@@ -65,7 +66,7 @@ unfolding next turnOf stopDeed
 no-other-event-moves s Start i h = refl
 no-other-event-moves s Stop i h = stops (s .progress) h
   where
-    stops : (p : Progress) → stopMoves (s .machine) i p ≡ false → bayAt (done (stopDeed p) (s .machine)) i .state ≡ bayAt (s .machine) i .state
+    stops : (p : Progress) → atStop (movesBay (s .machine) i) false p ≡ false → bayAt (done (stopDeed p) (s .machine)) i .state ≡ bayAt (s .machine) i .state
     stops Idle k = refl
     stops Opened k = refl
     stops Addressed k = refl
@@ -77,7 +78,7 @@ no-other-event-moves s (Byte b) i h = ap (λ m. bayAt m i .state) (only-stop-wri
 no-other-event-moves s (Take ack) i h = refl
 no-other-event-moves s (Pins levels) i h = nothing-else-moves (s .machine) i (act.Pins levels) h
 no-other-event-moves s Tick i h = nothing-else-moves (s .machine) i act.Tick h
-no-other-event-moves s (Reset straps levels) i h = absurd (true≢false h)
+no-other-event-moves s (Reset straps levels short) i h = absurd (true≢false h)
 no-other-event-moves s Timeout i h = refl
 
 -- ---- a read is decided at the own read byte
@@ -118,7 +119,7 @@ pub record LeavesNone (s : Controller) : Type 0 where
   pub stop : next s Stop .progress ≡ Idle
   pub take : (ack : Bool) → next s (Take ack) .progress ≡ Idle
   pub timeout : next s Timeout .progress ≡ Idle
-  pub reset : (straps levels : ℕ) → next s (Reset straps levels) .progress ≡ Idle
+  pub reset : (straps levels : ℕ) (short : Bool) → next s (Reset straps levels short) .progress ≡ Idle
   pub byte : (b : ℕ) → turnOf s (Byte b) .reply ≡ NoAck → next s (Byte b) .progress ≡ Idle
 
 pub leaves-none : (s : Controller) → LeavesNone s
@@ -128,7 +129,7 @@ leaves-none s =
       stop = refl;
       take = λ ack. refl;
       timeout = refl;
-      reset = λ straps levels. refl;
+      reset = λ straps levels short. refl;
       byte = λ b. at-byte (heard (s .machine .straps) b (s .progress));
     }
   where

@@ -61,7 +61,7 @@ deed-proper s (Byte b) l = byte-proper (s .machine) (heard (s .machine .straps) 
 deed-proper s (Take ack) l = tt
 deed-proper s (Pins levels) l = tt
 deed-proper s Tick l = tt
-deed-proper s (Reset straps levels) l = l
+deed-proper s (Reset straps levels short) l = l
 deed-proper s Timeout l = tt
 
 -- ---- a kept property
@@ -81,7 +81,7 @@ module _ (P : Machine → Type 0) (kept : Kept P) where
   first-keeps s (Take ack) k l = absurd (false≢true k)
   first-keeps s (Pins levels) k l = absurd (false≢true k)
   first-keeps s Tick k l = absurd (false≢true k)
-  first-keeps s (Reset straps levels) k l = kept .by-reset straps levels l
+  first-keeps s (Reset straps levels short) k l = kept .by-reset straps levels short l
   first-keeps s Timeout k l = absurd (false≢true k)
 
   pub event-keeps :

@@ -1,8 +1,10 @@
 pub mod Kept
 pub mod Laws
 pub mod Decided
+pub mod Parts
 pub mod Remreq
 pub mod Refusals
+pub mod Letr
 pub mod Replies
 pub mod Run
 pub mod Determined

@@ -89,7 +89,7 @@ comes-back s w = pick (ComesBack s) (fits (s .machine)) (λ f. by-word (unpacked
 
 -- What is taken: anything once started, and before that a RESET.
 Taken : Bool → Event → Type 0
-Taken b e = (b ≡ true) ⊎ ((straps : ℕ) × (levels : ℕ) × (e ≡ Reset straps levels))
+Taken b e = (b ≡ true) ⊎ ((straps : ℕ) × (levels : ℕ) × (short : Bool) × (e ≡ Reset straps levels short))
 
 taken : (b : Bool) (e : Event) → takes b e ≡ true → Taken b e
 unfolding takes Taken
@@ -100,18 +100,18 @@ taken false (Byte b) k = absurd (false≢true k)
 taken false (Take a) k = absurd (false≢true k)
 taken false (Pins l) k = absurd (false≢true k)
 taken false Tick k = absurd (false≢true k)
-taken false (Reset s l) k = inr (s, l, refl)
+taken false (Reset s l short) k = inr (s, l, short, refl)
 taken false Timeout k = absurd (false≢true k)
 
-reset-taken : (b : Bool) (s l : ℕ) → takes b (Reset s l) ≡ true
+pub reset-taken : (b : Bool) (s l : ℕ) (short : Bool) → takes b (Reset s l short) ≡ true
 unfolding takes
-reset-taken true s l = refl
-reset-taken false s l = refl
+reset-taken true s l short = refl
+reset-taken false s l short = refl
 
 takes-it : (b : Bool) (e : Event) → Taken b e → takes b e ≡ true
 unfolding Taken takes
 takes-it b e (inl t) = rw t
-takes-it b e (inr r) = rw (r .2) (reset-taken b (r .0) (r .1))
+takes-it b e (inr r) = rw (r .3) (reset-taken b (r .0) (r .1) (r .2))
 
 -- ---- the three tests, one after the other
 
@@ -159,7 +159,7 @@ module _ (s : Controller) (w : ℕ) where
     where
       reset-word : Taken (s .machine .started) e → (s .machine .started ≡ true) ⊎ IsReset w
       reset-word (inl t) = inl t
-      reset-word (inr r) = inr (r .0, r .1, p ∙ ap Accepted (r .2))
+      reset-word (inr r) = inr (r .0, r .1, r .2, p ∙ ap Accepted (r .3))
 
       -- another event of the same word is the same event
       same : {x : Event} → unpacked w ≡ Accepted x → e ≡ x
@@ -168,7 +168,7 @@ module _ (s : Controller) (w : ℕ) where
       refused-early : takes (s .machine .started) e ≡ false → Exactly s w 3
       refused-early k =
           early f b (not-started (s .machine .started) refl)
-          (λ r. false≢true (sym k ∙ takes-it (s .machine .started) e (inr (r .0, r .1, same (r .2)))))
+          (λ r. false≢true (sym k ∙ takes-it (s .machine .started) e (inr (r .0, r .1, r .2, same (r .3)))))
         where
           not-started : (t : Bool) → s .machine .started ≡ t → s .machine .started ≡ false
           not-started true t = absurd (false≢true (sym k ∙ takes-it (s .machine .started) e (inl t)))

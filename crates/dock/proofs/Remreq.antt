@@ -1,7 +1,7 @@
 -- REMREQ_STS over events, and a press where there is no device or one arrives (document 02, request 1). The first part holds in every
 -- controller, the second in those reached from a fresh one. Assumes nothing.
 use Prim.Native.Nat.{ℕ}
-use mathlib.Core.Path.{_≡_, refl, sym, ap, subst, _∙_}
+use mathlib.Core.Path.{_≡_, refl, sym, subst, _∙_}
 use mathlib.Core.Bool.{true, false, and-not-self, false≢true}
 use Rattle.event.specs.Words.{unpacked}
 use Rattle.event.specs.declared.Event.{Event}
@@ -21,39 +21,22 @@ use Rattle.bay.proofs.Press.{WithArrival, press-over-nothing, empty-without-dev
 use Rattle.machine.specs.Record.{bayAt, isOpen, fits}
 use Rattle.machine.specs.Acts.{tickTo, does}
 use Rattle.machine.specs.Remreq.{remreq, remreqAfter}
-use Rattle.machine.specs.declared.Act.the-variants as act
 use Rattle.machine.proofs.Moves.{ticked-each}
 use Rattle.machine.proofs.Remreq.{remreq-after}
-use Rattle.dock.specs.Events.{stopDeed, turnOf, done, next}
+use Rattle.dock.specs.Events.{atStop, turnOf, next}
 use Rattle.dock.specs.Step.{takes, stepFit, stepOf}
 use Rattle.dock.specs.Run.{Reached}
-use Rattle.dock.specs.Remreq.{remreqStopped, remreqNext, afterTick}
+use Rattle.dock.specs.Remreq.{remreqNext, afterTick}
 use Rattle.dock.specs.declared.Controller.{Controller}
 use Rattle.dock.specs.declared.Stepped.{Stepped}
 use Rattle.dock.proofs.Laws.{reached-sound}
-use Rattle.dock.proofs.Decided.{only-stop-writes}
+use Rattle.dock.proofs.Parts.{part-next}
 
 -- ---- at each event and each word
 
 pub remreq-next : (s : Controller) (e : Event) (i : ℕ) → remreq (next s e .machine) i ≡ remreqNext s i e
-unfolding next turnOf stopDeed remreqNext remreqAfter
-remreq-next s Start i = refl
-remreq-next s Stop i = stops (s .progress)
-  where
-    stops : (p : Progress) → remreq (done (stopDeed p) (s .machine)) i ≡ remreqStopped (s .machine) i p
-    stops Idle = refl
-    stops Opened = refl
-    stops Addressed = refl
-    stops (Register r) = refl
-    stops (Data r v) = remreq-after (act.Write r v) (s .machine) i
-    stops (Again r) = refl
-    stops (Reading v) = refl
-remreq-next s (Byte b) i = ap (λ m. remreq m i) (only-stop-writes s .byte b)
-remreq-next s (Take ack) i = refl
-remreq-next s (Pins levels) i = remreq-after (act.Pins levels) (s .machine) i
-remreq-next s Tick i = remreq-after act.Tick (s .machine) i
-remreq-next s (Reset straps levels) i = remreq-after (act.Reset straps levels) (s .machine) i
-remreq-next s Timeout i = refl
+unfolding remreqNext
+remreq-next s e i = part-next (λ m. remreq m i) (λ m a. remreqAfter m i a) (λ a m. remreq-after a m i) s e
 
 -- So REMREQ_STS goes from 0 to 1 only at a TICK that accepts a press with a device present at its end.
 pub record Raised (s : Controller) (i : ℕ) (u : Unpacked) (after : Controller) : Type 0 where
@@ -65,7 +48,7 @@ unfolding next turnOf remreqNext remreqAfter
 event-raises s Start i z t = absurd (false≢true (sym z ∙ t))
 event-raises s Stop i z t = absurd (false≢true (sym (stopped (s .progress)) ∙ t))
   where
-    stopped : (p : Progress) → remreqStopped (s .machine) i p ≡ false
+    stopped : (p : Progress) → atStop (remreqAfter (s .machine) i) (remreq (s .machine) i) p ≡ false
     stopped Idle = z
     stopped Opened = z
     stopped Addressed = z
@@ -77,7 +60,7 @@ event-raises s (Byte b) i z t = absurd (false≢true (sym z ∙ t))
 event-raises s (Take ack) i z t = absurd (false≢true (sym z ∙ t))
 event-raises s (Pins levels) i z t = absurd (false≢true (sym z ∙ t))
 event-raises s Tick i z t = record { a-tick = refl; a-press = rw z at t }
-event-raises s (Reset straps levels) i z t = absurd (false≢true t)
+event-raises s (Reset straps levels short) i z t = absurd (false≢true t)
 event-raises s Timeout i z t = absurd (false≢true (sym z ∙ t))
 
 pub remreq-raised :

@@ -26,7 +26,7 @@ pub record Replies (s : Controller) : Type 0 where
   pub take : (ack : Bool) → (numberOf s (Take ack) ≡ 3) ⊎ (numberOf s (Take ack) ≡ 4)
   pub pins : (levels : ℕ) → numberOf s (Pins levels) ≡ 0
   pub tick : numberOf s Tick ≡ 0
-  pub reset : (straps levels : ℕ) → numberOf s (Reset straps levels) ≡ 0
+  pub reset : (straps levels : ℕ) (short : Bool) → numberOf s (Reset straps levels short) ≡ 0
   pub timeout : numberOf s Timeout ≡ 0
 
 pub replies : (s : Controller) → Replies s
@@ -39,7 +39,7 @@ replies s =
       take = λ ack. to-take (s .progress);
       pins = λ levels. refl;
       tick = refl;
-      reset = λ straps levels. refl;
+      reset = λ straps levels short. refl;
       timeout = refl;
     }
   where

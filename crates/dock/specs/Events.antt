@@ -13,6 +13,7 @@ use Rattle.bus.specs.declared.Reply.the-variants.{Nothing, Ack, NoAck, Driven, 
 use Rattle.machine.specs.Registers.{reading}
 use Rattle.machine.specs.Acts.{does}
 use Rattle.machine.specs.declared.Machine.{Machine}
+use Rattle.machine.specs.declared.Act.{Act}
 use Rattle.machine.specs.declared.Act.the-variants as act
 use Rattle.dock.specs.declared.Controller.{Controller}
 use Rattle.dock.specs.declared.Deed.{Deed}
@@ -30,15 +31,18 @@ ended r = turn Idle NoDeed r
 abbrev pub startAt : Progress → Turn
 startAt p = turn (started p) NoDeed Nothing
 
--- A STOP ends the command; after a data byte it decides the write.
+-- A STOP ends the command; after a data byte it decides the write: this of the write, or else that.
+abbrev pub atStop : {A : Type 0} → (Act → A) → A → Progress → A
+atStop of other Idle = other
+atStop of other Opened = other
+atStop of other Addressed = other
+atStop of other (Register r) = other
+atStop of other (Data r v) = of (act.Write r v)
+atStop of other (Again r) = other
+atStop of other (Reading v) = other
+
 unfoldable pub stopDeed : Progress → Deed
-stopDeed Idle = NoDeed
-stopDeed Opened = NoDeed
-stopDeed Addressed = NoDeed
-stopDeed (Register r) = NoDeed
-stopDeed (Data r v) = Does (act.Write r v)
-stopDeed (Again r) = NoDeed
-stopDeed (Reading v) = NoDeed
+stopDeed p = atStop Does NoDeed p
 
 abbrev pub stopAt : Progress → Turn
 stopAt p = turn Idle (stopDeed p) Nothing
@@ -73,7 +77,7 @@ turnOf s (Byte b) = byteAt (s .machine) (s .progress) b
 turnOf s (Take ack) = takeAt (s .progress)
 turnOf s (Pins levels) = turn (s .progress) (Does (act.Pins levels)) Nothing
 turnOf s Tick = turn (s .progress) (Does act.Tick) Nothing
-turnOf s (Reset straps levels) = turn Idle (Does (act.Reset straps levels)) Nothing
+turnOf s (Reset straps levels short) = turn Idle (Does (act.Reset straps levels short)) Nothing
 turnOf s Timeout = ended Nothing
 
 -- The controller that it leaves.

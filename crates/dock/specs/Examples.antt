@@ -104,9 +104,9 @@ P10-P11 =
     ∷ gives (N ++ w 0x0C 0xE1) (reads 0x0C 0x01)
     ∷ []
 
--- Lock pin 0 low through 11 ticks, high after the 12th.
+-- Lock pin 0 low through 11 ticks, high after the 12th. Bit 12 of its RESET asks for the short pulse (document 02, request 4).
 abbrev unlocked : ℕ → List ℕ
-unlocked n = 0xC1FF ∷ (w 0x14 0x80 ++ w 0x14 0x00 ++ ticks n)
+unlocked n = 0xD1FF ∷ (w 0x14 0x80 ++ w 0x14 0x00 ++ ticks n)
 
 abbrev low : ℕ → Example
 low n = gives (unlocked n) (lock-pin-0 false)

@@ -7,4 +7,6 @@ pub mod Run
 pub mod Examples
 pub mod Ours
 pub mod Moves
+pub mod Parts
 pub mod Remreq
+pub mod Letr

@@ -5,9 +5,12 @@ use mathlib.Core.Bool.{true, false}
 use mathlib.Core.List.{List, [], _∷_, _++_}
 use Rattle.dock.specs.Examples.{Example, reads, lock-pin-0, drives, answers, gives, R, N, w, pins, ticks}
 
--- A RESET with these straps and levels.
+-- A RESET with these straps and levels, and one that asks for the short pulse.
 abbrev RESET : ℕ → List ℕ
 RESET given = (0xC000 + given) ∷ []
+
+abbrev SHORT : ℕ → List ℕ
+SHORT given = (0xD000 + given) ∷ []
 
 -- ---- before the first RESET
 
@@ -29,7 +32,7 @@ identity =
     ∷ gives (N ++ w 0x01 0xFF) (reads 0x01 0x10)
     ∷ gives (N ++ w 0x04 0xFF) (reads 0x04 0x01)
     ∷ gives (N ++ w 0x41 0xFF) (reads 0x41 0x00)
-    ∷ gives (N ++ w 0x41 0xFF) (reads 0x40 0x00)
+    ∷ gives (N ++ w 0x41 0xFF) (reads 0x40 0x01)
     ∷ []
 
 -- BSTR: nSL shows at once, and each bay has its own. Written, only bits 3 and 2 count, and only a 1.
@@ -56,9 +59,28 @@ bcer =
     ∷ gives (RESET 0x0FB ++ w 0x1C 0xC3) (reads 0x14 0x00)
     ∷ []
 
--- LETR has two bits.
+-- LETR has two bits. A RESET starts it at 1, and one that asks for the short pulse at 0, whatever it was and whatever the straps are
+-- (document 02, request 4); then it can be written as ever.
 abbrev letr : List Example
-letr = gives (N ++ w 0x40 0xFE) (reads 0x40 0x02) ∷ gives (N ++ w 0x40 0x03 ++ N) (reads 0x40 0x00) ∷ []
+letr =
+    gives (N ++ w 0x40 0xFE) (reads 0x40 0x02)
+    ∷ gives (N ++ w 0x40 0x03 ++ N) (reads 0x40 0x01)
+    ∷ gives (RESET 0x1FF) (reads 0x40 0x01)
+    ∷ gives (SHORT 0x1FF) (reads 0x40 0x00)
+    ∷ gives (RESET 0x1FF ++ w 0x40 0x00) (reads 0x40 0x00)
+    ∷ gives (SHORT 0x1FF ++ w 0x40 0x03) (reads 0x40 0x03)
+    ∷ gives (RESET 0x1FF ++ w 0x40 0x03 ++ SHORT 0x1FF) (reads 0x40 0x00)
+    ∷ gives (SHORT 0x1FF ++ w 0x40 0x03 ++ RESET 0x1FF) (reads 0x40 0x01)
+    ∷ []
+
+-- Bit 12 is none of the straps, nor of the levels: the address is that of the straps below it, and the device is there.
+abbrev short : List Example
+short =
+    gives (SHORT 0xCFF ++ 0x0000 ∷ []) (answers 0x4096 0 1 0x00 0x000)
+    ∷ gives (SHORT 0x0BF) (reads 0x10 0x05)
+    ∷ gives (SHORT 0x2FF) (drives 0x088)
+    ∷ gives [] (answers 0xD1FF 0 0 0x00 0x088)
+    ∷ []
 
 -- DBCCR: count 1 closes bay 1 until RESET, the others close nothing. In a closed bay nothing reads, nothing is written, sampled or
 -- counted, and nothing is driven; what was in it is gone.
@@ -160,9 +182,18 @@ unlocked time n = RESET 0x1FF ++ w 0x40 time ++ w 0x14 0x80 ++ w 0x14 0x00 ++ ti
 abbrev again : ℕ → List ℕ
 again n = unlocked 0 6 ++ w 0x14 0x80 ++ w 0x14 0x00 ++ ticks n
 
+-- With no write of LETR: 50 ticks, or 12 if the RESET asks for the short pulse.
+abbrev unlockedBy : List ℕ → ℕ → List ℕ
+unlockedBy reset n = reset ++ w 0x14 0x80 ++ w 0x14 0x00 ++ ticks n
+
 abbrev locks : List Example
 locks =
-    gives (unlocked 1 49) (lock-pin-0 false)
+    gives (unlockedBy (RESET 0x1FF) 0) (lock-pin-0 false)
+    ∷ gives (unlockedBy (RESET 0x1FF) 49) (lock-pin-0 false)
+    ∷ gives (unlockedBy (RESET 0x1FF) 50) (lock-pin-0 true)
+    ∷ gives (unlockedBy (SHORT 0x1FF) 11) (lock-pin-0 false)
+    ∷ gives (unlockedBy (SHORT 0x1FF) 12) (lock-pin-0 true)
+    ∷ gives (unlocked 1 49) (lock-pin-0 false)
     ∷ gives (unlocked 1 50) (lock-pin-0 true)
     ∷ gives (unlocked 2 99) (lock-pin-0 false)
     ∷ gives (unlocked 2 100) (lock-pin-0 true)
@@ -211,4 +242,4 @@ inside =
 
 unfoldable pub ours : List Example
 ours =
-    unstarted ++ identity ++ bstr ++ bcer ++ letr ++ dbccr ++ moves ++ over-nothing ++ with-arrival ++ lamps ++ flashing ++ locks ++ answered ++ inside
+    unstarted ++ identity ++ bstr ++ bcer ++ letr ++ short ++ dbccr ++ moves ++ over-nothing ++ with-arrival ++ lamps ++ flashing ++ locks ++ answered ++ inside

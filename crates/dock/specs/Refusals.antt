@@ -2,7 +2,7 @@
 use Prim.Native.Nat.{ℕ}
 use mathlib.Core.Path.{_≡_}
 use mathlib.Core.Logic.{_↔_, _⊎_}
-use mathlib.Core.Bool.{true, false}
+use mathlib.Core.Bool.{Bool, true, false}
 use Rattle.event.specs.Words.{unpacked, StrayBitSet}
 use Rattle.event.specs.declared.Event.the-variants.{Reset}
 use Rattle.event.specs.declared.Unpacked.the-variants.{Accepted}
@@ -10,7 +10,7 @@ use Rattle.machine.specs.Record.{fits}
 use Rattle.dock.specs.declared.Controller.{Controller}
 
 abbrev pub IsReset : ℕ → Type 0
-IsReset w = (straps : ℕ) × (levels : ℕ) × (unpacked w ≡ Accepted (Reset straps levels))
+IsReset w = (straps : ℕ) × (levels : ℕ) × (short : Bool) × (unpacked w ≡ Accepted (Reset straps levels short))
 
 -- The refusal number n of a word w in a state s. In their order: 1, 2, 3.
 pub record Exactly (s : Controller) (w n : ℕ) : Type 0 where

@@ -1,14 +1,14 @@
 -- One event word at a time (document 01, "Replies and refusal numbers").
 use Prim.Native.Nat.{ℕ}
-use mathlib.Core.Bool.{Bool, true, false, cond}
-use Rattle.event.specs.Words.{unpacked}
+use mathlib.Core.Bool.{Bool, cond, _||_}
+use Rattle.event.specs.Words.{unpacked, isReset}
 use Rattle.event.specs.declared.Event.{Event}
-use Rattle.event.specs.declared.Event.the-variants.{Start, Stop, Byte, Take, Pins, Tick, Reset, Timeout}
 use Rattle.event.specs.declared.Unpacked.{Unpacked}
 use Rattle.event.specs.declared.Unpacked.the-variants.{Accepted, StrayBit as NoEvent}
 use Rattle.machine.specs.Record.{fits}
 use Rattle.machine.specs.Outputs.{outputs}
 use Rattle.machine.specs.Registers.{reading}
+use Rattle.machine.specs.declared.Machine.{Machine}
 use Rattle.dock.specs.Events.{turnOf, next}
 use Rattle.dock.specs.declared.Controller.{Controller}
 use Rattle.dock.specs.declared.Answer.{Answer}
@@ -19,15 +19,7 @@ use Rattle.dock.specs.declared.Told.the-variants.{Value, Unfit as NotFit
 
 -- No RESET yet and this isn't one: not taken.
 unfoldable pub takes : Bool → Event → Bool
-takes true e = true
-takes false Start = false
-takes false Stop = false
-takes false (Byte b) = false
-takes false (Take ack) = false
-takes false (Pins l) = false
-takes false Tick = false
-takes false (Reset s l) = true
-takes false Timeout = false
+takes started e = started || isReset e
 
 -- On a refusal the state comes back as given.
 abbrev pub refused : Controller → Answer → Stepped
@@ -44,6 +36,10 @@ stepFit s (Accepted e) = cond (takes (s .machine .started) e) (doneStep s e) (re
 
 unfoldable pub stepOf : Controller → ℕ → Stepped
 stepOf s w = cond (fits (s .machine)) (stepFit s (unpacked w)) (refused s Unfit)
+
+-- The machine after a word; where the word is refused, the machine as it was.
+abbrev pub afterWord : Controller → ℕ → Machine
+afterWord s w = stepOf s w .controller .machine
 
 -- Asking a state for one register's reading or for its outputs, outside the bus.
 unfoldable pub toldReading : Controller → ℕ → Told

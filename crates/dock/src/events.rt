@@ -96,8 +96,19 @@ impl Controller {
             Event::Take(_) => take(progress),
             Event::Pins(levels) => decided(progress, Act::Pins(levels)),
             Event::Tick => decided(progress, Act::Tick),
-            Event::Reset { straps, levels } => {
-                decided(Progress::Idle, Act::Reset { straps, levels })
+            Event::Reset {
+                straps,
+                levels,
+                short_pulse,
+            } => {
+                decided(
+                    Progress::Idle,
+                    Act::Reset {
+                        straps,
+                        levels,
+                        short_pulse,
+                    },
+                )
             }
             Event::Timeout => ended(Reply::Nothing),
         }

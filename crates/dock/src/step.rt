@@ -13,17 +13,7 @@ use event::Unpacked;
 fn takes(started: bool, event: Event) -> bool
     ensures { λ r. ⌜ r ≡ takes started event ⌝ }
 {
-    if started {
-        return true;
-    }
-    if let Event::Reset {
-        straps: _,
-        levels: _,
-    } = event {
-        true
-    } else {
-        false
-    }
+    started | event.is_reset()
 }
 
 impl Controller {

@@ -5,7 +5,7 @@ use mathlib.Core.List.{List, [], _∷_}
 use mathlib.Core.Bool.{Bool, true, false}
 use lib.ListN.{getD}
 use lib.Dec.{ltb, eqb}
-use Rattle.bits.specs.Bits.{put}
+use Rattle.bits.specs.Bits.{bit, put}
 use Rattle.bits.specs.Straps.{MOST-STRAPS}
 use Rattle.event.specs.declared.Event.{Event}
 use Rattle.event.specs.declared.Event.the-variants.{Start, Stop, Byte, Take, Pins, Tick, Reset, Timeout}
@@ -22,8 +22,9 @@ pub record Row : Type 0 where
 abbrev row : ℕ → (ℕ → Event) → Row
 row n f = record { bits = n; event = f }
 
+-- RESET: bit 12 asks for the short pulse (document 02, request 4), bits 11-8 are the straps, bits 7-0 the levels.
 abbrev pub reset : ℕ → Event
-reset d = Reset (d / 256) (d % 256)
+reset d = Reset (d / 256 % 16) (d % 256) (bit 12 d)
 
 -- The table, from kind 0 on.
 abbrev pub table : List Row
@@ -34,7 +35,7 @@ table =
     ∷ row 1 (λ d. Take (eqb d 1))
     ∷ row 8 Pins
     ∷ row 0 (λ d. Tick)
-    ∷ row 12 reset
+    ∷ row 13 reset
     ∷ row 0 (λ d. Timeout)
     ∷ []
 
@@ -69,6 +70,10 @@ unpacked w = accept (ltb (fieldOf w) (2 ^ bitsOf (kindOf w))) (eventOf (kindOf w
 abbrev word : ℕ → ℕ → ℕ
 word k d = k * KIND + d
 
+-- The data of a RESET.
+abbrev pub resetData : ℕ → ℕ → Bool → ℕ
+resetData straps levels short = put 12 short + (straps * 256 + levels)
+
 -- The word of an event, most significant field first.
 unfoldable pub wordOf : Event → ℕ
 wordOf Start = word 0 0
@@ -77,8 +82,18 @@ wordOf (Byte b) = word 2 b
 wordOf (Take ack) = word 3 (put 0 ack)
 wordOf (Pins p) = word 4 p
 wordOf Tick = word 5 0
-wordOf (Reset s l) = word 6 (s * 256 + l)
+wordOf (Reset s l short) = word 6 (resetData s l short)
 wordOf Timeout = word 7 0
+
+abbrev pub isReset : Event → Bool
+isReset Start = false
+isReset Stop = false
+isReset (Byte b) = false
+isReset (Take ack) = false
+isReset (Pins p) = false
+isReset Tick = false
+isReset (Reset s l short) = true
+isReset Timeout = false
 
 -- The straps of an event, 0 where it has none.
 unfoldable pub strapsOf : Event → ℕ
@@ -88,7 +103,7 @@ strapsOf (Byte b) = 0
 strapsOf (Take ack) = 0
 strapsOf (Pins p) = 0
 strapsOf Tick = 0
-strapsOf (Reset s l) = s
+strapsOf (Reset s l short) = s
 strapsOf Timeout = 0
 
 abbrev pub wordUnless : Bool → ℕ → Packed
@@ -124,5 +139,5 @@ Bytes (Byte b) = b < 256
 Bytes (Take ack) = Unit {0}
 Bytes (Pins p) = p < 256
 Bytes Tick = Unit {0}
-Bytes (Reset s l) = (s < 256) × (l < 256)
+Bytes (Reset s l short) = (s < 256) × (l < 256)
 Bytes Timeout = Unit {0}

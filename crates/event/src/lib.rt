@@ -1,8 +1,9 @@
 // Event words (document 01, "Event words"): what can happen to a controller, one kind with its own
 // data, and its packing into 16 bits. `specs/Words.antt` has the table and what each call answers.
 ghost use mathlib.Core.Path.{_≡_};
-ghost use Prim.Native.Nat.{_<_, _+_, _*_, _^_};
-ghost use Rattle.event.specs.Words.{KIND, bitsOf, eventOf, unpacked, packed};
+ghost use Prim.Native.Nat.{_<_, _≤_, _+_, _*_, _^_};
+ghost use Rattle.bits.specs.Straps.{MOST-STRAPS};
+ghost use Rattle.event.specs.Words.{KIND, bitsOf, eventOf, unpacked, resetData, packed, isReset};
 ghost use Rattle.event.specs.Words.{unpackRefusal, packRefusal, packWord};
 use bits::straps;
 
@@ -16,8 +17,12 @@ pub enum Event {
     // Levels: n1394, nUSB, nREMREQ, nSL of bay 0, then of bay 1; 0 is asserted.
     Pins(u8),
     Tick,
-    // Straps: SMB_A1, SMB_A0, LOCK_DEF, LOCK_MODE.
-    Reset { straps: u8, levels: u8 },
+    // Straps: SMB_A1, SMB_A0, LOCK_DEF, LOCK_MODE. The short pulse, LETR 0 at first, is asked for or not.
+    Reset {
+        straps: u8,
+        levels: u8,
+        short_pulse: bool,
+    },
     // SCLK held low too long.
     Timeout,
 }
@@ -37,6 +42,29 @@ pub enum Packed {
 impl Event {
     // One more in bits 15-13, the kind.
     pub const KIND: u16 = 8192;
+    // Bit 12 of a RESET, and one more in bits 11-8, its straps.
+    const SHORT_PULSE: u16 = 4096;
+
+    const STRAPS: u16 = 256;
+
+    pub fn is_reset(self) -> bool
+        ensures { λ r. ⌜ r ≡ isReset self ⌝ }
+    {
+        match self {
+            Event::Start => false,
+            Event::Stop => false,
+            Event::Byte(_) => false,
+            Event::Take(_) => false,
+            Event::Pins(_) => false,
+            Event::Tick => false,
+            Event::Reset {
+                straps: _,
+                levels: _,
+                short_pulse: _,
+            } => true,
+            Event::Timeout => false,
+        }
+    }
 }
 
 // How many values the data of a kind can have: the bits above them must be 0.
@@ -46,7 +74,7 @@ fn room(kind: u16) -> u16
     match kind {
         2 | 4 => 256,
         3 => 2,
-        6 => 4096,
+        6 => 8192,
         _ => 1,
     }
 }
@@ -63,8 +91,9 @@ fn event_of(kind: u16, field: u16) -> Event
         4 => Event::Pins(field as u8),
         5 => Event::Tick,
         6 => Event::Reset {
-            straps: (field / 256) as u8,
-            levels: (field % 256) as u8,
+            straps: (field / Event::STRAPS % 16) as u8,
+            levels: (field % Event::STRAPS) as u8,
+            short_pulse: field / Event::SHORT_PULSE % 2 == 1,
         },
         _ => Event::Timeout,
     }
@@ -91,6 +120,20 @@ fn word(kind: u16, field: u16) -> Packed
     Packed::Word(kind * Event::KIND + field)
 }
 
+// The data of a RESET, most significant field first.
+fn reset_data(straps: u8, levels: u8, short_pulse: bool) -> u16
+    requires { ⌜ straps ≤ MOST-STRAPS ⌝ }
+    ensures { λ r. ⌜ r ≡ resetData straps levels «short_pulse» ⌝ }
+    ensures small { λ r. ⌜ r < KIND ⌝ }
+{
+    let data = straps as u16 * Event::STRAPS + levels as u16;
+    if short_pulse {
+        Event::SHORT_PULSE + data
+    } else {
+        data
+    }
+}
+
 // The word of an event, unless its straps exceed 15.
 pub fn pack(event: Event) -> Packed
     ensures { λ r. ⌜ r ≡ packed event ⌝ }
@@ -102,9 +145,13 @@ pub fn pack(event: Event) -> Packed
         Event::Take(ack) => { if ack { word(3, 1) } else { word(3, 0) } }
         Event::Pins(p) => word(4, p as u16),
         Event::Tick => word(5, 0),
-        Event::Reset { straps, levels } => {
+        Event::Reset {
+            straps,
+            levels,
+            short_pulse,
+        } => {
             if straps <= straps::MOST {
-                word(6, straps as u16 * 256 + levels as u16)
+                word(6, reset_data(straps, levels, short_pulse))
             } else {
                 Packed::StrapsTooLarge
             }

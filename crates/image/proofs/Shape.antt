@@ -102,7 +102,7 @@ shaped-kept : Kept Shaped
 unfolding resetTo
 shaped-kept =
     record {
-      by-reset = λ straps levels l. two-bays (resetTo straps levels) _ _ refl (reset-shaped _ _) (reset-shaped _ _);
+      by-reset = λ straps levels short l. two-bays (resetTo straps levels short) _ _ refl (reset-shaped _ _) (reset-shaped _ _);
       by-write = λ a v m t h. written-shaped m h a v;
       by-pins = λ levels m t h. pins-shaped m h levels;
       by-tick = λ m t h. tick-shaped m h;

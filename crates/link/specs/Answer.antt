@@ -1,4 +1,4 @@
--- The one layout of an answer of the library: the refusal in bits 31-16, and a value below it. Document 01's answers as such numbers.
+-- The one layout of an answer of the library: the refusal in bits 23-16, and a value below it. Document 01's answers as such numbers.
 use Prim.Native.Nat.{ℕ, _+_, _*_}
 use Rattle.dock.specs.Answers.{toldRefusal, toldValue}
 use Rattle.dock.specs.declared.Told.{Told}

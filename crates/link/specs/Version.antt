@@ -1,5 +1,5 @@
--- The library's version: 2.1, its two numbers side by side.
+-- The library's version: 3.0, its two numbers side by side.
 use Prim.Native.Nat.{ℕ, _+_, _*_}
 
 abbrev pub VERSION : ℕ
-VERSION = 2 * 256 + 1
+VERSION = 3 * 256 + 0

@@ -1,4 +1,4 @@
-// The one layout of an answer: the refusal in bits 31-16, and a value below it.
+// The one layout of an answer: the refusal in bits 23-16, and a value below it.
 ghost use mathlib.Core.Path.{_≡_};
 ghost use Prim.Native.Nat.{_≤_};
 ghost use Rattle.batch.specs.Outcome.{outcomeCount};

@@ -9,6 +9,7 @@ use Rattle.machine.proofs.Machine.fit.Reads as fit-reads
 use Rattle.machine.proofs.Machine.reading.Reads as reading-reads
 use Rattle.machine.proofs.Machine.outputs.Reads as outputs-reads
 use Rattle.machine.proofs.Machine.does.Reads as does-reads
+use Rattle.machine.proofs.registers.pulse_ticks.Reads as pulse-ticks-reads
 
 pub fresh-determined : (r s : Machine) → fresh-reads.Post tt tt r tt → fresh-reads.Post tt tt s tt → r ≡ s
 fresh-determined r s p q = p ∙ sym q
@@ -26,3 +27,6 @@ outputs-determined m r s p q = p ∙ sym q
 pub does-determined :
     (m : Machine) (a : Act) (r s : Machine) → does-reads.Post tt (m, (a, tt)) r (m, (a, tt)) → does-reads.Post tt (m, (a, tt)) s (m, (a, tt)) → r ≡ s
 does-determined m a r s p q = p ∙ sym q
+
+pub pulse-ticks-determined : (t r s : ℕ) → pulse-ticks-reads.Post tt (t, tt) r (t, tt) → pulse-ticks-reads.Post tt (t, tt) s (t, tt) → r ≡ s
+pulse-ticks-determined t r s p q = p ∙ sym q

@@ -4,7 +4,7 @@ use Prim.Native.Nat.{ℕ, zero, suc, _%_, _-_, _<_, _≤_}
 use native.Mathlib.Omega.{arith}
 use mathlib.Core.Path.{_≡_}
 use mathlib.Core.Logic.{_↔_}
-use mathlib.Core.Bool.{true, and-eq-true-iff}
+use mathlib.Core.Bool.{Bool, true, and-eq-true-iff}
 use lib.Dec.{eqb, ltb}
 use borrow.Author.Tests.{lt-ltb, le-leb, ltb-true, leb-true}
 use Rattle.bits.specs.Straps.{MOST-STRAPS}
@@ -62,10 +62,16 @@ fresh-parts =
 pub fresh-fit : fits freshMachine ≡ true
 fresh-fit = fit-parts freshMachine .1 fresh-parts
 
-reset-parts : (straps levels : ℕ) → straps ≤ MOST-STRAPS → Fits (resetTo straps levels)
+reset-parts : (straps levels : ℕ) (short : Bool) → straps ≤ MOST-STRAPS → Fits (resetTo straps levels short)
 unfolding resetTo bayIn
-reset-parts straps levels l =
-    record { phase = omega arith; straps = l; lock-time = omega arith; bay-count = omega arith; bays = both (resetTo straps levels) (reset-fit _ _) (reset-fit _ _) }
+reset-parts straps levels short l =
+    record {
+      phase = omega arith;
+      straps = l;
+      lock-time = pick (λ n. n ≤ 3) short (λ _. omega arith) (λ _. omega arith);
+      bay-count = omega arith;
+      bays = both (resetTo straps levels short) (reset-fit _ _) (reset-fit _ _);
+    }
 
 phase-on : (p : ℕ) → p < PHASES → nextPhase p < PHASES
 unfolding nextPhase
@@ -157,7 +163,7 @@ written-parts a v m f = by-address Fits a v m (dbccr-parts v m f) (letr-parts v 
 pub fits-kept : Kept (λ m. fits m ≡ true)
 fits-kept =
     record {
-      by-reset = λ straps levels l. fit-parts _ .1 (reset-parts straps levels l);
+      by-reset = λ straps levels short l. fit-parts _ .1 (reset-parts straps levels short l);
       by-write = λ a v m t h. fit-parts _ .1 (written-parts a v m (fit-parts m .0 h));
       by-pins = λ levels m t h. fit-parts _ .1 (pins-parts levels m (fit-parts m .0 h));
       by-tick = λ m t h. fit-parts _ .1 (tick-parts m (fit-parts m .0 h));

@@ -17,7 +17,7 @@ Proper (Write a v) = Unit {0}
 Proper (Read a) = Unit {0}
 Proper (Pins levels) = Unit {0}
 Proper Tick = Unit {0}
-Proper (Reset straps levels) = straps ≤ MOST-STRAPS
+Proper (Reset straps levels short) = straps ≤ MOST-STRAPS
 
 pub act-keeps : (P : Machine → Type 0) → Kept P → (a : Act) → Proper a → (m : Machine) → m .started ≡ true → P m → P (does a m)
 unfolding does Proper
@@ -25,14 +25,14 @@ act-keeps P kept (Write a v) l m t h = kept .by-write a v m t h
 act-keeps P kept (Read a) l m t h = h
 act-keeps P kept (Pins levels) l m t h = kept .by-pins levels m t h
 act-keeps P kept Tick l m t h = kept .by-tick m t h
-act-keeps P kept (Reset straps levels) l m t h = kept .by-reset straps levels l
+act-keeps P kept (Reset straps levels short) l m t h = kept .by-reset straps levels short l
 
 -- A started machine stays started.
 pub started-kept : Kept (λ m. m .started ≡ true)
 unfolding resetTo pinsTo tickTo
 started-kept =
     record {
-      by-reset = λ straps levels l. refl;
+      by-reset = λ straps levels short l. refl;
       by-write = λ a v m t h. write-steady a v m .started ∙ h;
       by-pins = λ levels m t h. h;
       by-tick = λ m t h. h;

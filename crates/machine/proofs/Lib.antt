@@ -12,4 +12,6 @@ pub mod Map
 pub mod Drives
 pub mod Moves
 pub mod Remreq
+pub mod Letr
+pub mod Pulse
 pub mod Determined

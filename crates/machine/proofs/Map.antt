@@ -155,20 +155,24 @@ closing v m w = subst (Closing v m) (sym (dbccr-first v m w)) (stored-closing v 
 
 -- ---- RESET and PINS
 
--- DBCCR and LETR read 0, DBCCR can be written, the phase is 0 and both bays are open.
-pub record Begun (straps : ℕ) (m : Machine) : Type 0 where
+-- DBCCR reads 0 and can be written, LETR reads 1, or 0 if the short pulse is asked for, the phase is 0 and both bays are open.
+pub record Begun (straps : ℕ) (short : Bool) (m : Machine) : Type 0 where
   pub started : m .started ≡ true
   pub straps-stored : m .straps ≡ straps
   pub dbccr : reading m 0x0C ≡ 0
   pub unwritten : m .shared .«dbccr_written» ≡ false
-  pub letr : reading m 0x40 ≡ 0
+  pub letr : reading m 0x40 ≡ cond short 0 1
   pub phase : m .phase ≡ 0
   pub both-open : isOpen m 1 ≡ true
 
-pub reset-begins : (straps levels : ℕ) → Begun straps (resetTo straps levels)
+pub reset-begins : (straps levels : ℕ) (short : Bool) → Begun straps short (resetTo straps levels short)
 unfolding resetTo reading register registers dbccrOf openBy
-reset-begins straps levels =
-    record { started = refl; straps-stored = refl; dbccr = refl; unwritten = refl; letr = refl; phase = refl; both-open = refl }
+reset-begins straps levels short =
+    record { started = refl; straps-stored = refl; dbccr = refl; unwritten = refl; letr = starts short; phase = refl; both-open = refl }
+  where
+    starts : (b : Bool) → _≡_ {A = ℕ} (cond b 0 1 % 4) (cond b 0 1)
+    starts true = refl
+    starts false = refl
 
 -- The levels n1394, nUSB, nREMREQ and nSL of bay 0 are bits 7 to 4, those of bay 1 bits 3 to 0.
 pub record Levels (levels top : ℕ) (b : Bay) : Type 0 where
@@ -198,9 +202,9 @@ low levels b s =
       nsl = s .nsl ∙ same-bit (levels % 16 / 1 % 2) (levels / 1 % 2) (omega arith);
     }
 
-pub reset-levels : (straps levels : ℕ) → Levels levels 7 (bayAt (resetTo straps levels) 0) × Levels levels 3 (bayAt (resetTo straps levels) 1)
+pub reset-levels : (straps levels : ℕ) (short : Bool) → Levels levels 7 (bayAt (resetTo straps levels short) 0) × Levels levels 3 (bayAt (resetTo straps levels short) 1)
 unfolding resetTo bayIn
-reset-levels straps levels = (high levels _ (reset-senses _ _), low levels _ (reset-senses _ _))
+reset-levels straps levels short = (high levels _ (reset-senses _ _), low levels _ (reset-senses _ _))
 
 pub pins-levels :
     (levels : ℕ) (m : Machine)

@@ -35,7 +35,7 @@ pub record Moves (m : Machine) (i : ℕ) : Type 0 where
   pub tick : isOpen m i ≡ true → bayAt (does Tick m) i ≡ tickedBay (bayAt m i)
   pub bcer : (v : ℕ) → isOpen m i ≡ true → bayAt (does (Write (bcerAddress i) v) m) i ≡ controlledBay (controlOf v) (lockMode (m .straps)) (pulseTicks (m .shared .«lock_time»)) (bayAt m i)
   pub closing : (v : ℕ) → closes m 1 0x0C v ≡ true → bayAt (does (Write 0x0C v) m) 1 .state ≡ 0
-  pub reset : (straps levels : ℕ) → bayAt (does (Reset straps levels) m) i .state ≡ 0
+  pub reset : (straps levels : ℕ) (short : Bool) → bayAt (does (Reset straps levels short) m) i .state ≡ 0
 
 -- A TICK makes of each bay what it makes of an open one, and passes a closed one by.
 pub ticked-each : (m : Machine) (i : ℕ) → bayAt (tickTo m) i ≡ cond (isOpen m i) (tickedBay (bayAt m i)) (bayAt m i)
@@ -46,9 +46,9 @@ ticked-each m i = go (eqb i 0)
     go true = refl
     go false = refl
 
-reset-empty : (straps levels i : ℕ) → bayAt (resetTo straps levels) i .state ≡ 0
+reset-empty : (straps levels : ℕ) (short : Bool) (i : ℕ) → bayAt (resetTo straps levels short) i .state ≡ 0
 unfolding resetTo resetBay
-reset-empty straps levels = each (λ (b : Bay). b .state ≡ 0) (resetTo straps levels .bays) refl refl
+reset-empty straps levels short = each (λ (b : Bay). b .state ≡ 0) (resetTo straps levels short .bays) refl refl
 
 open-written :
     (v : ℕ) (m : Machine) (i : ℕ) → isOpen m i ≡ true
@@ -56,10 +56,10 @@ open-written :
 unfolding bcerWrite
 open-written v m i o = rw (chosen o) (put-bay i _ (m .bays))
 
-controlled : (v : ℕ) (m : Machine) (i : ℕ) → i < 2 → written (bcerAddress i) v m ≡ bcerWrite i v m
-controlled v m zero l = takes v m .bcer-0
-controlled v m (suc zero) l = takes v m .bcer-1
-controlled v m (suc (suc i)) l = absurd (omega arith)
+pub bcer-write : (i v : ℕ) (m : Machine) → i < 2 → written (bcerAddress i) v m ≡ bcerWrite i v m
+bcer-write zero v m l = takes v m .bcer-0
+bcer-write (suc zero) v m l = takes v m .bcer-1
+bcer-write (suc (suc i)) v m l = absurd (omega arith)
 
 closed-empty : (v : ℕ) (m : Machine) → closes m 1 0x0C v ≡ true → bayAt (written 0x0C v m) 1 .state ≡ 0
 unfolding emptyBay
@@ -72,9 +72,9 @@ unfolding does
 moves m i l =
     record {
       tick = λ o. ticked-each m i ∙ chosen o _ _;
-      bcer = λ v o. ap (λ t. bayAt t i) (controlled v m i l) ∙ open-written v m i o;
+      bcer = λ v o. ap (λ t. bayAt t i) (bcer-write i v m l) ∙ open-written v m i o;
       closing = λ v h. closed-empty v m h;
-      reset = λ straps levels. reset-empty straps levels i;
+      reset = λ straps levels short. reset-empty straps levels short i;
     }
 
 -- ---- nothing else moves a bay
@@ -154,4 +154,4 @@ nothing-else-moves m i (Write a v) h = write-still a v m i h
 nothing-else-moves m i (Read a) h = refl
 nothing-else-moves m i (Pins levels) h = pins-still levels m i
 nothing-else-moves m i Tick h = tick-still m i h
-nothing-else-moves m i (Reset straps levels) h = absurd (true≢false h)
+nothing-else-moves m i (Reset straps levels short) h = absurd (true≢false h)

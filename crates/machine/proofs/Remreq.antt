@@ -120,9 +120,9 @@ tick-remreq m i =
     P : Bay → Type 0
     P b = b .«remreq_sts» ≡ (remreq m i || pressOver (bayAt m i) b)
 
-reset-remreq : (straps levels i : ℕ) → remreq (resetTo straps levels) i ≡ false
+reset-remreq : (straps levels : ℕ) (short : Bool) (i : ℕ) → remreq (resetTo straps levels short) i ≡ false
 unfolding resetTo resetBay
-reset-remreq straps levels = each (λ (b : Bay). b .«remreq_sts» ≡ false) (resetTo straps levels .bays) refl refl
+reset-remreq straps levels short = each (λ (b : Bay). b .«remreq_sts» ≡ false) (resetTo straps levels short .bays) refl refl
 
 -- ---- every act
 
@@ -132,4 +132,4 @@ remreq-after (Write a v) m i = write-remreq a v m i
 remreq-after (Read a) m i = refl
 remreq-after (Pins levels) m i = pins-remreq levels m i
 remreq-after Tick m i = tick-remreq m i
-remreq-after (Reset straps levels) m i = reset-remreq straps levels i
+remreq-after (Reset straps levels short) m i = reset-remreq straps levels short i

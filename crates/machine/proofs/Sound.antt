@@ -68,14 +68,14 @@ no-pulse-written v mode ticks b m z = rw m z
 
 -- ---- events
 
-reset-keeps : (straps levels : ℕ) → straps ≤ MOST-STRAPS → Sound (resetTo straps levels)
+reset-keeps : (straps levels : ℕ) (short : Bool) → straps ≤ MOST-STRAPS → Sound (resetTo straps levels short)
 unfolding resetTo openBy NoPulse
-reset-keeps straps levels l =
+reset-keeps straps levels short l =
     record {
-      fit = fits-kept .by-reset straps levels l;
-      bays = each BaySound (resetTo straps levels .bays) (reset-sound _ _) (reset-sound _ _);
+      fit = fits-kept .by-reset straps levels short l;
+      bays = each BaySound (resetTo straps levels short .bays) (reset-sound _ _) (reset-sound _ _);
       closed = λ o. absurd (true≢false o);
-      pulses = λ z. each NoPulse (resetTo straps levels .bays) (no-pulse-reset _ _) (no-pulse-reset _ _);
+      pulses = λ z. each NoPulse (resetTo straps levels short .bays) (no-pulse-reset _ _) (no-pulse-reset _ _);
       untouched = λ f. absurd (true≢false f);
     }
 

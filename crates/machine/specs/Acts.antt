@@ -18,13 +18,17 @@ use Rattle.machine.specs.declared.Act.the-variants.{Write, Read, Pins, T
 abbrev pub lockAfterReset : ℕ → Bool
 lockAfterReset straps = lockDef straps && not (lockMode straps)
 
--- RESET: LETR and DBCCR 0, DBCCR unwritten, phase 0, both bays as RESET makes them with their levels (bay 0's are bits 7-4).
-unfoldable pub resetTo : ℕ → ℕ → Machine
-resetTo straps levels =
+-- After RESET LETR is 1, or 0 if the short pulse is asked for (document 02, request 4).
+abbrev pub letrAfterReset : Bool → ℕ
+letrAfterReset short = cond short 0 1
+
+-- RESET: LETR so, DBCCR 0 and unwritten, phase 0, both bays as RESET makes them with their levels (bay 0's are bits 7-4).
+unfoldable pub resetTo : ℕ → ℕ → Bool → Machine
+resetTo straps levels short =
     record {
       started = true;
       straps = straps;
-      shared = unwritten;
+      shared = unwritten (letrAfterReset short);
       phase = 0;
       bays = resetBay (levels / 16) (lockAfterReset straps) ∷ resetBay (levels % 16) (lockAfterReset straps) ∷ [];
     }
@@ -54,7 +58,7 @@ does (Write a v) m = written a v m
 does (Read a) m = m
 does (Pins levels) m = pinsTo levels m
 does Tick m = tickTo m
-does (Reset straps levels) m = resetTo straps levels
+does (Reset straps levels short) m = resetTo straps levels short
 
 -- .. and after a list of acts, one after the other.
 unfoldable pub doesAll : List Act → Machine → Machine

@@ -6,3 +6,4 @@ pub mod Sound
 pub mod Kept
 pub mod Moves
 pub mod Remreq
+pub mod Letr

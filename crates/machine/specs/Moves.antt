@@ -21,4 +21,4 @@ movesBay m i (Write a v) = eqb a (bcerAddress i) && isOpen m i || closes m i a v
 movesBay m i (Read a) = false
 movesBay m i (Pins levels) = false
 movesBay m i Tick = isOpen m i
-movesBay m i (Reset straps levels) = true
+movesBay m i (Reset straps levels short) = true

@@ -70,13 +70,13 @@ withBay i b m = withBays (placed i b (m .bays)) m
 
 -- ---- fresh and fit
 
--- DBCCR and LETR 0, DBCCR unwritten.
-abbrev pub unwritten : Shared
-unwritten = record { «dbccr_written» = false; seclock = false; «bay_count» = 0; «lock_time» = 0 }
+-- DBCCR 0 and unwritten, and LETR as given.
+abbrev pub unwritten : ℕ → Shared
+unwritten letr = record { «dbccr_written» = false; seclock = false; «bay_count» = 0; «lock_time» = letr }
 
 -- A fresh state is not started.
 unfoldable pub freshMachine : Machine
-freshMachine = record { started = false; straps = 0; shared = unwritten; phase = 0; bays = emptyBay ∷ emptyBay ∷ [] }
+freshMachine = record { started = false; straps = 0; shared = unwritten 0; phase = 0; bays = emptyBay ∷ emptyBay ∷ [] }
 
 -- A state is fit when phase is 0-199, straps 0-15, lock time 0-3, bay count 0-3, and each bay is fit; any other field may hold any
 -- value of its kind.

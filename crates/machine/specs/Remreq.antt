@@ -28,4 +28,4 @@ remreqAfter m i (Write a v) = remreq m i && not (clears m i a v)
 remreqAfter m i (Read a) = remreq m i
 remreqAfter m i (Pins levels) = remreq m i
 remreqAfter m i Tick = remreq m i || pressOver (bayAt m i) (bayAt (does Tick m) i)
-remreqAfter m i (Reset straps levels) = false
+remreqAfter m i (Reset straps levels short) = false

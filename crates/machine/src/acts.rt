@@ -3,7 +3,7 @@ ghost use mathlib.Core.Path.{_≡_};
 ghost use mathlib.Core.Bool.{cond};
 ghost use Rattle.bay.specs.Debounce.{sampledBay};
 ghost use Rattle.bay.specs.Moves.{tickedBay};
-ghost use Rattle.machine.specs.Acts.{resetTo, pinsTo, tickTo, nextPhase};
+ghost use Rattle.machine.specs.Acts.{letrAfterReset, resetTo, pinsTo, tickTo, nextPhase};
 ghost use Rattle.machine.specs.Acts.{does as Acts·does};
 use crate::Act;
 use crate::Machine;
@@ -24,6 +24,13 @@ fn next_phase(phase: u8) -> u8
     }
 }
 
+// LETR after a RESET.
+fn letr_after_reset(short_pulse: bool) -> u8
+    ensures { λ r. ⌜ r ≡ letrAfterReset «short_pulse» ⌝ }
+{
+    if short_pulse { 0 } else { 1 }
+}
+
 // A bay after a pin sample, with its four levels. A closed bay is passed by.
 fn sampled(open: bool, bay: Bay, levels: u8) -> Bay
     ensures { λ r. ⌜ r ≡ cond «open» (sampledBay levels bay) bay ⌝ }
@@ -40,14 +47,14 @@ fn ticked(open: bool, bay: Bay) -> Bay
 
 impl Machine {
     // Bay 0's levels are bits 7-4.
-    fn reset(straps: u8, levels: u8) -> Machine
-        ensures { λ r. ⌜ r ≡ resetTo straps levels ⌝ }
+    fn reset(straps: u8, levels: u8, short_pulse: bool) -> Machine
+        ensures { λ r. ⌜ r ≡ resetTo straps levels «short_pulse» ⌝ }
     {
         let lock_ctl = lock_def(straps) & !lock_mode(straps);
         Machine {
             started: true,
             straps,
-            shared: Shared::unwritten(),
+            shared: Shared::unwritten(letr_after_reset(short_pulse)),
             phase: 0,
             bays: [
                 Bay::reset(levels / 16, lock_ctl),
@@ -88,7 +95,11 @@ impl Machine {
             Act::Read(_) => self,
             Act::Pins(levels) => self.pins(levels),
             Act::Tick => self.tick(),
-            Act::Reset { straps, levels } => Machine::reset(straps, levels),
+            Act::Reset {
+                straps,
+                levels,
+                short_pulse,
+            } => Machine::reset(straps, levels, short_pulse),
         }
     }
 }

@@ -6,6 +6,7 @@ mod record;
 mod registers;
 
 use bay::Bay;
+pub use registers::pulse_ticks;
 
 // A machine. Any value of any field may come in; `fit` tells the ones that the rules can make.
 pub struct Machine {
@@ -32,13 +33,21 @@ pub struct Shared {
 // What a machine does, each at once.
 pub enum Act {
     // A whole write.
-    Write { register: u8, value: u8 },
+    Write {
+        register: u8,
+        value: u8,
+    },
     // A whole read, which answers what the register reads and alters nothing.
     Read(u8),
     // A pin sample. Levels: n1394, nUSB, nREMREQ, nSL of bay 0, then of bay 1; 0 is asserted.
     Pins(u8),
     Tick,
-    Reset { straps: u8, levels: u8 },
+    // A RESET; LETR is then 1, or 0 if the short pulse is asked for.
+    Reset {
+        straps: u8,
+        levels: u8,
+        short_pulse: bool,
+    },
 }
 
 impl Machine {

@@ -14,7 +14,7 @@ impl Machine {
         Machine {
             started: false,
             straps: 0,
-            shared: Shared::unwritten(),
+            shared: Shared::unwritten(0),
             phase: 0,
             bays: [Bay::empty(), Bay::empty()],
         }
@@ -34,15 +34,15 @@ impl Machine {
 }
 
 impl Shared {
-    // As a RESET leaves them.
-    pub(crate) fn unwritten() -> Shared
-        ensures { λ r. ⌜ r ≡ unwritten ⌝ }
+    // As a RESET leaves them, with this LETR.
+    pub(crate) fn unwritten(lock_time: u8) -> Shared
+        ensures { λ r. ⌜ r ≡ unwritten «lock_time» ⌝ }
     {
         Shared {
             dbccr_written: false,
             seclock: false,
             bay_count: 0,
-            lock_time: 0,
+            lock_time,
         }
     }
 

@@ -19,7 +19,7 @@ use bits::put;
 use bits::straps::lock_mode;
 
 // How many ticks a lock time stands for.
-fn pulse_ticks(lock_time: u8) -> u8
+pub fn pulse_ticks(lock_time: u8) -> u8
     ensures { λ r. ⌜ r ≡ pulseTicks «lock_time» ⌝ }
 {
     match lock_time {

@@ -9,6 +9,7 @@ use lib.ListN.{take, drop}
 use borrow.Author.Tests.{ltb-true, ltb-false, leb-false, le-leb, lt-leb}
 use denote.Ref.{RefT, now}
 use Rattle.bytes.specs.Bytes.{indexOf}
+use Rattle.event.specs.Words.{unpacked}
 use Rattle.hex.specs.Digit.{digitFor}
 use Rattle.script.specs.Text.{characters, blank, leading, trimmed, first, rest, spelled, spelled64}
 use Rattle.script.specs.Verbs.{name, verbs, verbOf}
@@ -23,7 +24,7 @@ use Rattle.script.proofs.lines.meaning.Reads as meaning-reads
 
 -- Each of the examples means what it is said to mean.
 pub examples-hold : map (λ (e : Example). lineOf (characters (e .typed))) examples ≡ map (λ (e : Example). e .means) examples
-unfolding examples indexOf lineOf plain textLine verbLine orderLine handLine insertLine pulls raises only bayOf kindOf given resetLine takeLine writeLine octetOf isOctet digitOf wordOf pairOf ticksOf countOf countFrom verbOf verbs name spelled spelled64 trimmed first rest leading blank
+unfolding examples unpacked indexOf lineOf plain textLine verbLine orderLine handLine insertLine pulls raises only bayOf kindOf given resetLine takeLine writeLine octetOf isOctet digitOf wordOf pairOf ticksOf countOf countFrom verbOf verbs name spelled spelled64 trimmed first rest leading blank
 examples-hold = refl
 
 pub arguments-hold : map (λ (a : Argument). argumentOf (characters (a .typed))) arguments ≡ map (λ (a : Argument). characters (a .word)) arguments

@@ -36,8 +36,10 @@ arguments =
 
 unfoldable pub examples : List Example
 examples =
-    line "reset C0BF" (Does (order.Event (event.Reset 0 0xBF)))
-    ∷ line "reset cdff" (Does (order.Event (event.Reset 13 0xFF)))
+    line "reset C0BF" (Does (order.Event (event.Reset 0 0xBF false)))
+    ∷ line "reset cdff" (Does (order.Event (event.Reset 13 0xFF false)))
+    ∷ line "reset D1FF" (Does (order.Event (event.Reset 1 0xFF true)))
+    ∷ line "reset DFFF" (Does (order.Event (event.Reset 15 0xFF true)))
     ∷ line "pins BF" (Does (order.Event (event.Pins 0xBF)))
     ∷ line "insert 0 1394" (Does (order.Pull 0x80))
     ∷ line "insert 0 usb" (Does (order.Pull 0x40))
@@ -83,7 +85,10 @@ examples =
     ∷ line "w 14 =04" (Misused verb.W)
     ∷ line "w" (Misused verb.W)
     ∷ line "reset 80BF" (Misused verb.Reset)
-    ∷ line "reset D0BF" (Misused verb.Reset)
+    ∷ line "reset BFFF" (Misused verb.Reset)
+    ∷ line "reset E000" (Misused verb.Reset)
+    ∷ line "reset A000" (Misused verb.Reset)
+    ∷ line "reset C0B" (Misused verb.Reset)
     ∷ line "pins BG" (Misused verb.Pins)
     ∷ line "tick 65536" (Misused verb.Tick)
     ∷ line "tick A" (Misused verb.Tick)

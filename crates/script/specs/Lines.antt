@@ -1,12 +1,15 @@
 -- What a line means: a verb, what it takes, and a comment after `#`.
-use Prim.Native.Nat.{ℕ, _/_, _%_}
+use Prim.Native.Nat.{ℕ}
 use Prim.Native.Char.{code}
 use mathlib.Core.Bool.{Bool, cond, not, _&&_, _||_}
 use mathlib.Core.List.{List}
 use lib.ListN.{length, take}
-use lib.Dec.{eqb, leb}
+use lib.Dec.{eqb}
 use Rattle.bytes.specs.Bytes.{indexOf}
+use Rattle.event.specs.Words.{unpacked, isReset}
 use Rattle.event.specs.declared.Event.the-variants as event
+use Rattle.event.specs.declared.Unpacked.{Unpacked}
+use Rattle.event.specs.declared.Unpacked.the-variants.{Accepted, StrayBit}
 use Rattle.script.specs.Text.{trimmed, first, rest, spelled64}
 use Rattle.script.specs.Verbs.{name, verbOf}
 use Rattle.script.specs.Arguments.{octetOf, wordOf, pairOf, ticksOf}
@@ -25,10 +28,12 @@ unfoldable pub given : Verb → Bool → Order → Line
 given v good o = cond good (Does o) (Misused v)
 
 -- `reset` takes the word of a RESET.
+abbrev resetBy : Bool → Unpacked → Line
+resetBy good (Accepted e) = given Reset (good && isReset e) (Event e)
+resetBy good StrayBit = Misused Reset
+
 unfoldable pub resetLine : List ℕ → Line
-resetLine t =
-    given Reset ((wordOf t .good && leb 0xC000 (wordOf t .value)) && leb (wordOf t .value) 0xCFFF)
-    (Event (event.Reset (wordOf t .value / 256 % 16) (wordOf t .value % 256)))
+resetLine t = resetBy (wordOf t .good) (unpacked (wordOf t .value))
 
 -- `take` takes `ack` or `nack`.
 unfoldable pub takeLine : List ℕ → Line

@@ -18,11 +18,7 @@ use crate::verbs::ACK;
 use crate::verbs::NACK;
 use crate::verbs::verb;
 use event::Event;
-
-// The words of a RESET.
-const FIRST_RESET: u16 = 0xC000;
-
-const LAST_RESET: u16 = 0xCFFF;
+use event::Unpacked;
 
 // An order, where what follows its verb is what the verb takes.
 fn given(verb: Verb, good: bool, order: Order) -> Line
@@ -35,18 +31,15 @@ fn given(verb: Verb, good: bool, order: Order) -> Line
     }
 }
 
+// The word of a RESET.
 fn reset(text: &[u8]) -> Line
     ensures { λ r. ⌜ r ≡ resetLine (now (text .entry)) ⌝ }
 {
     let n = word(text);
-    let good = n.good & (FIRST_RESET <= n.value) & (n.value <= LAST_RESET);
-    let straps = (n.value / 256 % 16) as u8;
-    let levels = (n.value % 256) as u8;
-    given(
-        Verb::Reset,
-        good,
-        Order::Event(Event::Reset { straps, levels }),
-    )
+    let Unpacked::Accepted(event) = event::unpack(n.value) else {
+        return Line::Misused(Verb::Reset);
+    };
+    given(Verb::Reset, n.good & event.is_reset(), Order::Event(event))
 }
 
 fn take(text: &[u8]) -> Line

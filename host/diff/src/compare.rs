@@ -88,6 +88,6 @@ pub fn unpack(word: u16) -> Option<Mismatch> {
     Mismatch::of_answers("dock_unpack", LIBRARY.name, ffi::unpack(word), numbers::unpack(word))
 }
 
-pub fn pack(kind: u8, first: u8, second: u8) -> Option<Mismatch> {
+pub fn pack(kind: u8, first: u16, second: u8) -> Option<Mismatch> {
     Mismatch::of_answers("dock_pack", LIBRARY.name, ffi::pack(kind, first, second), numbers::pack(kind, first, second))
 }

@@ -11,6 +11,7 @@
 mod compare;
 mod counts;
 mod presses;
+mod pulses;
 mod run;
 mod shrink;
 mod sides;

@@ -3,19 +3,26 @@
 use crate::compare::{self, Mismatch, Question};
 use crate::counts::Counts;
 use crate::presses::Presses;
+use crate::pulses::Pulses;
 use crate::sides::{HELD, LIBRARY, MODEL, PLAIN};
 use crate::tell::{self, call_agrees, Failure};
 use crate::walk::{self, Way};
 use model::{Controller, MOST_WORDS};
 use trial::{lists, Random, Room};
 
-/// What dock_version answers: 2.1, accepted.
-const VERSION: u32 = 0x0201;
+/// What dock_version answers: 3.0, accepted.
+const VERSION: u32 = 0x0300;
 
 /// Kinds that pack is asked for: the eight and two that do not exist.
 const KINDS: u8 = 10;
 
-/// From so many generated words on, each kind of press must have come.
+/// First numbers that pack is asked for with every second: all that an event has, and as many again.
+const FIRSTS: u16 = 1024;
+
+/// Second numbers that pack is asked for with every first.
+const SECONDS: [u8; 2] = [0x00, 0xBF];
+
+/// From so many generated words on, each kind of press and of pulse must have come.
 const TELLING: usize = 100_000;
 
 /// Up to here a list is short enough for the C controller to be asked all 256 addresses, each from the whole list.
@@ -66,14 +73,19 @@ impl Run {
             call_agrees(compare::unpack(word), || format!("dock_unpack({:04X}h)", word))?;
         }
         for kind in 0..KINDS {
-            for number in 0..=u16::MAX {
-                let [first, second] = number.to_be_bytes();
-                self.counts.packs += 1;
-                let asked = || format!("dock_pack({}, {}, {})", kind, first, second);
-                call_agrees(compare::pack(kind, first, second), asked)?;
+            for first in 0..FIRSTS {
+                (0..=u8::MAX).try_for_each(|second| self.pack(kind, first, second))?;
+            }
+            for first in FIRSTS..=u16::MAX {
+                SECONDS.iter().try_for_each(|&second| self.pack(kind, first, second))?;
             }
         }
         Ok(())
+    }
+
+    fn pack(&mut self, kind: u8, first: u16, second: u8) -> Result<(), Failure> {
+        self.counts.packs += 1;
+        call_agrees(compare::pack(kind, first, second), || format!("dock_pack({}, {}, {})", kind, first, second))
     }
 
     /// Every word first of all, and every word right after a RESET.
@@ -105,6 +117,7 @@ impl Run {
     fn generated(&mut self, words: usize) -> Result<(), Failure> {
         let enough = self.counts.words + words;
         self.counts.held.presses = Presses::default();
+        self.counts.held.pulses = Pulses::default();
         while self.counts.words < enough {
             self.random = Random::new(self.seed, self.counts.lists as u64 + 1);
             let length = lists::length(&mut self.random);
@@ -115,11 +128,12 @@ impl Run {
     }
 
     fn rules_told_apart(&self, words: usize) -> Result<(), Failure> {
-        let presses = &self.counts.held.presses;
-        if words < TELLING || presses.all_came() {
+        let held = &self.counts.held;
+        if words < TELLING || (held.presses.all_came() && held.pulses.all_came()) {
             return Ok(());
         }
-        Err(Failure(format!("seed {}: the lists can't tell one press rule from another: {}\n", self.seed, presses)))
+        let came = format!("{}; {}", held.presses, held.pulses);
+        Err(Failure(format!("seed {}: the lists can't tell one rule from another: {}\n", self.seed, came)))
     }
 
     /// All that is asked of one list.

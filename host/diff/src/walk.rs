@@ -2,6 +2,7 @@
 
 use crate::compare::Mismatch;
 use crate::presses::Presses;
+use crate::pulses::Pulses;
 use crate::sides::LIBRARY;
 use trial::{held, lists, Held, Random, Room, TOO_MANY};
 
@@ -20,6 +21,7 @@ pub struct Counts {
     pub outputs: usize,
     pub refused: usize,
     pub presses: Presses,
+    pub pulses: Pulses,
 }
 
 impl std::ops::AddAssign for Counts {
@@ -30,6 +32,7 @@ impl std::ops::AddAssign for Counts {
         self.outputs += more.outputs;
         self.refused += more.refused;
         self.presses += more.presses;
+        self.pulses += more.pulses;
     }
 }
 
@@ -75,12 +78,12 @@ impl Walk {
 
     fn step(&mut self, held: &mut Held, word: u16) -> Result<usize, held::Mismatch> {
         self.counts.steps += 1;
-        if word != TICK {
-            return held.step(word).map(|()| 1);
-        }
         let before = held.bytes().to_vec();
         held.step(word)?;
-        self.counts.presses.count(&before, held.bytes());
+        if word == TICK {
+            self.counts.presses.count(&before, held.bytes());
+        }
+        self.counts.pulses.count(word, &before, held.bytes());
         Ok(1)
     }
 

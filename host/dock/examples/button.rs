@@ -40,7 +40,7 @@ fn interrupted_write(dock: &mut Dock) -> Result<(), Error> {
 
 fn main() -> Result<(), Error> {
     let mut dock = Dock::new()?;
-    tell(&mut dock, Event::Reset { straps: 0, levels: USB_IN_BAY_0 })?;
+    tell(&mut dock, Event::Reset { straps: 0, levels: USB_IN_BAY_0, short_pulse: false })?;
     tell_all(&mut dock, &dock::write(OWN, Register::control(Bay::Zero), ENABLE))?;
     interrupted_write(&mut dock)?;
     tell_all(&mut dock, &dock::read(OWN, Register::status(Bay::Zero)))?;

@@ -2,12 +2,20 @@
 
 use crate::{Error, Outputs, Refusal, Reply, Unnamed, RECORD_BYTES};
 
-/// The value of an answer that has its refusal in bits 31-16.
+/// The value of an answer that has no bit set above its refusal.
 pub(crate) fn value(answer: u32) -> Result<u16, Error> {
     match (answer >> 16) as u16 {
         0 => Ok(answer as u16),
         number => Err(Refusal::try_from(number)?.into()),
     }
+}
+
+/// The two numbers of an unpacked word. The first may have more than a byte: the rest stands above the refusal, which is
+/// in bits 23-16.
+pub(crate) fn numbers(answer: u32) -> Result<(u16, u8), Error> {
+    let [high, refusal, low, second] = answer.to_be_bytes();
+    value(u32::from_be_bytes([0, refusal, low, second]))?;
+    Ok((u16::from_be_bytes([high, low]), second))
 }
 
 /// The value of an answer whose value is a byte.
@@ -97,6 +105,9 @@ mod tests {
         assert_eq!(value(0x0005_0000), Err(Error::Refused(Refusal::TooManyWords)));
         assert_eq!(value(0x0007_0000), Err(Error::Unnamed(Unnamed { what: "refusal", number: 7 })));
         assert_eq!(value(0x1000_0000), Err(Error::Unnamed(Unnamed { what: "refusal", number: 0x1000 })));
+        assert_eq!(numbers(0x0000_90BF), Ok((0x90, 0xBF)));
+        assert_eq!(numbers(0x0100_0FBF), Ok((0x10F, 0xBF)));
+        assert_eq!(numbers(0x0002_0000), Err(Error::Refused(Refusal::StrayBit)));
         assert_eq!(byte(0x0000_00FF), Ok(0xFF));
         assert_eq!(byte(0x0000_0100), Err(Error::Unnamed(Unnamed { what: "byte", number: 0x100 })));
     }

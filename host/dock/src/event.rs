@@ -4,7 +4,10 @@ use crate::{pack, unpack, Error, Unnamed};
 use core::fmt;
 
 /// The most that four straps make.
-const MOST_STRAPS: u8 = 15;
+const MOST_STRAPS: u16 = 15;
+
+/// What RESET's first number has beside the straps where the short pulse is asked for.
+const SHORT_PULSE: u16 = 0x100;
 
 /// One thing that happens to the dock.
 ///
@@ -12,9 +15,11 @@ const MOST_STRAPS: u8 = 15;
 /// use dock::{Error, Event, Refusal};
 ///
 /// assert_eq!(Event::try_from(0x4090)?, Event::Byte(0x90));
-/// assert_eq!(u16::try_from(Event::Reset { straps: 0, levels: 0xBF })?, 0xC0BF);
+/// assert_eq!(u16::try_from(Event::Reset { straps: 0, levels: 0xBF, short_pulse: false })?, 0xC0BF);
+/// assert_eq!(Event::try_from(0xD1FF)?, Event::Reset { straps: 1, levels: 0xFF, short_pulse: true });
 /// assert_eq!(Event::try_from(0xA001), Err(Error::Refused(Refusal::StrayBit)));
-/// assert_eq!(u16::try_from(Event::Reset { straps: 16, levels: 0 }), Err(Error::Refused(Refusal::WideStraps)));
+/// let wide = Event::Reset { straps: 16, levels: 0, short_pulse: false };
+/// assert_eq!(u16::try_from(wide), Err(Error::Refused(Refusal::WideStraps)));
 /// # Ok::<(), Error>(())
 /// ```
 #[derive(Clone, Copy, PartialEq, Eq, Debug)]
@@ -22,43 +27,59 @@ pub enum Event {
     Start,
     Stop,
     Byte(u8),
-    Take { ack: bool },
+    Take {
+        ack: bool,
+    },
     Pins(u8),
     Tick,
-    Reset { straps: u8, levels: u8 },
+    /// LETR then starts at 1, 50 ticks, or with `short_pulse` at 0, 12 ticks.
+    Reset {
+        straps: u8,
+        levels: u8,
+        short_pulse: bool,
+    },
     Timeout,
 }
 
 impl Event {
     /// The kind and the two numbers of the C interface.
-    fn numbers(self) -> (u8, u8, u8) {
+    fn numbers(self) -> (u8, u16, u8) {
         match self {
             Event::Start => (0, 0, 0),
             Event::Stop => (1, 0, 0),
-            Event::Byte(value) => (2, value, 0),
-            Event::Take { ack } => (3, u8::from(ack), 0),
-            Event::Pins(levels) => (4, levels, 0),
+            Event::Byte(value) => (2, value.into(), 0),
+            Event::Take { ack } => (3, ack.into(), 0),
+            Event::Pins(levels) => (4, levels.into(), 0),
             Event::Tick => (5, 0, 0),
-            Event::Reset { straps, levels } => (6, straps, levels),
+            Event::Reset { straps, levels, short_pulse: false } => (6, straps.into(), levels),
+            Event::Reset { straps, levels, short_pulse: true } => (6, SHORT_PULSE | u16::from(straps), levels),
             Event::Timeout => (7, 0, 0),
         }
     }
 
     /// The event of these numbers. Numbers that no event of this version has are not cut to fit one: a library whose
     /// RESET has more straps is told as such.
-    fn of_numbers(kind: u8, first: u8, second: u8) -> Result<Event, Unnamed> {
+    fn of_numbers(kind: u8, first: u16, second: u8) -> Result<Event, Unnamed> {
+        let low = first as u8;
         Ok(match (kind, first, second) {
             (0, 0, 0) => Event::Start,
             (1, 0, 0) => Event::Stop,
-            (2, value, 0) => Event::Byte(value),
+            (2, 0..=0xFF, 0) => Event::Byte(low),
             (3, 0 | 1, 0) => Event::Take { ack: first == 1 },
-            (4, levels, 0) => Event::Pins(levels),
+            (4, 0..=0xFF, 0) => Event::Pins(low),
             (5, 0, 0) => Event::Tick,
-            (6, straps, levels) if straps <= MOST_STRAPS => Event::Reset { straps, levels },
+            (6, first, levels) if first & !SHORT_PULSE <= MOST_STRAPS => {
+                Event::Reset { straps: low, levels, short_pulse: first & SHORT_PULSE != 0 }
+            }
             (7, 0, 0) => Event::Timeout,
-            _ => return Err(Unnamed { what: "event", number: u32::from_be_bytes([0, kind, first, second]) }),
+            _ => return Err(unnamed(kind, first, second)),
         })
     }
+}
+
+fn unnamed(kind: u8, first: u16, second: u8) -> Unnamed {
+    let [high, low] = first.to_be_bytes();
+    Unnamed { what: "event", number: u32::from_be_bytes([kind, high, low, second]) }
 }
 
 impl TryFrom<u16> for Event {
@@ -91,7 +112,10 @@ impl fmt::Display for Event {
             Event::Take { ack: false } => f.write_str("TAKE, NACK"),
             Event::Pins(levels) => write!(f, "PINS {:02X}h", levels),
             Event::Tick => f.write_str("TICK"),
-            Event::Reset { straps, levels } => write!(f, "RESET {:X}h {:02X}h", straps, levels),
+            Event::Reset { straps, levels, short_pulse } => {
+                write!(f, "RESET {:X}h {:02X}h", straps, levels)?;
+                f.write_str(if *short_pulse { ", short pulse" } else { "" })
+            }
             Event::Timeout => f.write_str("TIMEOUT"),
         }
     }
@@ -120,9 +144,12 @@ mod tests {
 
     #[test]
     fn numbers_that_no_event_has_are_told() {
-        for (kind, first, second) in [(0, 1, 0), (1, 0, 1), (2, 0, 1), (3, 2, 0), (4, 0, 1), (6, 16, 0), (7, 1, 0)] {
-            let number = u32::from_be_bytes([0, kind, first, second]);
-            assert_eq!(Event::of_numbers(kind, first, second), Err(Unnamed { what: "event", number }));
+        let bare = [(0, 1, 0), (1, 0, 1), (3, 2, 0), (7, 1, 0)];
+        let bytes = [(2, 0, 1), (2, 0x100, 0), (4, 0, 1), (4, 0x100, 0)];
+        let resets = [(6, 0x010, 0), (6, 0x110, 0), (6, 0x200, 0), (6, 0x301, 0)];
+        for (kind, first, second) in bare.into_iter().chain(bytes).chain(resets) {
+            assert_eq!(Event::of_numbers(kind, first, second), Err(unnamed(kind, first, second)));
         }
+        assert_eq!(unnamed(6, 0x110, 0xBF), Unnamed { what: "event", number: 0x0601_10BF });
     }
 }

@@ -19,7 +19,7 @@ extern "C" {
     fn dock_reading(state: *const u8, state_len: usize, address: u8) -> u32;
     fn dock_outputs(state: *const u8, state_len: usize) -> u32;
     fn dock_replay(words: *const u16, words_len: usize, records: *mut u8, records_len: usize) -> u32;
-    fn dock_pack(kind: u8, first: u8, second: u8) -> u32;
+    fn dock_pack(kind: u8, first: u16, second: u8) -> u32;
     fn dock_unpack(word: u16) -> u32;
 }
 
@@ -59,7 +59,7 @@ pub fn replay(words: &[u16], records: &mut [u8]) -> u32 {
     unsafe { dock_replay(words.as_ptr(), words.len(), records.as_mut_ptr(), records.len()) }
 }
 
-pub fn pack(kind: u8, first: u8, second: u8) -> u32 {
+pub fn pack(kind: u8, first: u16, second: u8) -> u32 {
     // SAFETY: numbers only.
     unsafe { dock_pack(kind, first, second) }
 }

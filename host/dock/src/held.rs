@@ -11,7 +11,7 @@ use crate::{check_library, ffi, Bay, Error, Event, Outputs, Record, Refusal, Reg
 /// use dock::{Bay, Dock, Event, Register};
 ///
 /// let mut dock = Dock::new()?;
-/// dock.event(Event::Reset { straps: 0, levels: 0xBF })?; // a USB device in bay 0
+/// dock.event(Event::Reset { straps: 0, levels: 0xBF, short_pulse: false })?; // a USB device in bay 0
 /// for event in dock::write(0x90, Register::control(Bay::Zero), 0x04) {
 ///     dock.event(event)?;
 /// }

@@ -7,7 +7,7 @@
 //! use dock::{Bay, Dock, Event, Reply};
 //!
 //! let mut dock = Dock::new()?;
-//! dock.event(Event::Reset { straps: 0, levels: 0xBF })?; // a USB device in bay 0
+//! dock.event(Event::Reset { straps: 0, levels: 0xBF, short_pulse: false })?; // a USB device in bay 0
 //! let step = dock.event(Event::Start)?;
 //! assert_eq!(step.reply, Reply::None);
 //! let step = dock.event(Event::Byte(0x90))?; // the dock's own address
@@ -43,7 +43,7 @@ pub use register::{Bay, BayState, Register, Status};
 pub use reply::Reply;
 pub use version::{check_library, version, Version, WRITTEN_FOR};
 
-use answer::value;
+use answer::{numbers, value};
 
 /// The bytes of a state's image.
 pub const STATE_BYTES: usize = 51;
@@ -68,12 +68,11 @@ pub fn replay(words: &[u16], records: &mut [u8]) -> Result<usize, Error> {
 
 /// The word of the event with this kind and these two numbers; see the header for which kind has which.
 /// Refused with [`Refusal::StrayBit`] where no event has them, and with [`Refusal::WideStraps`] above 15.
-pub fn pack(kind: u8, first: u8, second: u8) -> Result<u16, Error> {
+pub fn pack(kind: u8, first: u16, second: u8) -> Result<u16, Error> {
     value(ffi::pack(kind, first, second))
 }
 
 /// The two numbers of a word's event, whose kind is bits 15-13 of the word; refused with [`Refusal::StrayBit`].
-pub fn unpack(word: u16) -> Result<(u8, u8), Error> {
-    let [first, second] = value(ffi::unpack(word))?.to_be_bytes();
-    Ok((first, second))
+pub fn unpack(word: u16) -> Result<(u16, u8), Error> {
+    numbers(ffi::unpack(word))
 }

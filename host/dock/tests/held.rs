@@ -22,7 +22,8 @@ fn a_refused_word_leaves_the_image() {
     let mut dock = Dock::new().unwrap();
     let fresh = dock.clone();
     assert_eq!(dock.step(TICK), refused(Refusal::NotStarted));
-    assert_eq!(dock.event(Event::Reset { straps: 16, levels: 0 }), refused(Refusal::WideStraps));
+    let wide = Event::Reset { straps: 16, levels: 0, short_pulse: false };
+    assert_eq!(dock.event(wide), refused(Refusal::WideStraps));
     assert_eq!(dock, fresh);
     let mut dock = started();
     dock.event(Event::Start).unwrap();
@@ -87,7 +88,18 @@ fn every_word_is_the_word_of_its_event() {
             None
         }
     });
-    assert_eq!(events.count(), 4 + 256 + 256 + 2 + 4096);
+    assert_eq!(events.count(), 4 + 256 + 256 + 2 + 8192);
+}
+
+#[test]
+fn a_reset_says_where_letr_starts() {
+    for (short_pulse, letr) in [(false, 1), (true, 0)] {
+        let mut dock = Dock::new().unwrap();
+        dock.event(Event::Reset { straps: 1, levels: 0xFF, short_pulse }).unwrap();
+        assert_eq!(dock.reading(0x40), Ok(letr));
+    }
+    let short = Event::Reset { straps: 1, levels: 0xFF, short_pulse: true };
+    assert_eq!(short.to_string(), "RESET 1h FFh, short pulse");
 }
 
 #[test]

@@ -81,17 +81,19 @@ impl Controller {
             Event::Take { .. } => return self.take(),
             Event::Pins(levels) => self.pins(levels),
             Event::Tick => self.tick(),
-            Event::Reset { straps, levels } => *self = Controller::reset(straps, levels),
+            Event::Reset { straps, levels, short_pulse } => *self = Controller::reset(straps, levels, short_pulse),
             Event::Timeout => self.command = Command::Idle,
         }
         Reply::None
     }
 
-    fn reset(straps: u8, levels: u8) -> Controller {
+    /// LETR starts at 500 ms, and at 120 ms in a dock that was built on the short pulse.
+    fn reset(straps: u8, levels: u8, short_pulse: bool) -> Controller {
         let lock = straps & (LOCK_DEF | LOCK_MODE) == LOCK_DEF;
         Controller {
             started: true,
             straps,
+            lock_time: if short_pulse { 0 } else { 1 },
             bays: [Bay::reset(levels >> 4, lock), Bay::reset(levels & 0x0F, lock)],
             ..Controller::new()
         }

@@ -11,12 +11,15 @@ pub enum Event {
     Take { ack: bool },
     Pins(u8),
     Tick,
-    Reset { straps: u8, levels: u8 },
+    Reset { straps: u8, levels: u8, short_pulse: bool },
     Timeout,
 }
 
 /// The bits that may be set below the kind, by kind.
-const DATA_BITS: [u16; 8] = [0, 0, 0x00FF, 0x0001, 0x00FF, 0, 0x0FFF, 0];
+const DATA_BITS: [u16; 8] = [0, 0, 0x00FF, 0x0001, 0x00FF, 0, 0x1FFF, 0];
+
+/// The bit of a RESET by which a dock says that it was built on the short pulse.
+const SHORT_PULSE: u16 = 1 << 12;
 
 const MOST_STRAPS: u8 = 15;
 
@@ -35,7 +38,7 @@ pub fn unpack(word: u16) -> Option<Event> {
         3 => Event::Take { ack: low == 1 },
         4 => Event::Pins(low),
         5 => Event::Tick,
-        6 => Event::Reset { straps: (data >> 8) as u8, levels: low },
+        6 => Event::Reset { straps: (data >> 8 & 0x0F) as u8, levels: low, short_pulse: data & SHORT_PULSE != 0 },
         _ => Event::Timeout,
     })
 }
@@ -50,7 +53,10 @@ pub fn pack(event: Event) -> Result<u16, Refusal> {
         Event::Pins(levels) => (4, u16::from(levels)),
         Event::Tick => (5, 0),
         Event::Reset { straps, .. } if straps > MOST_STRAPS => return Err(Refusal::WideStraps),
-        Event::Reset { straps, levels } => (6, u16::from(straps) << 8 | u16::from(levels)),
+        Event::Reset { straps, levels, short_pulse } => {
+            let asked = if short_pulse { SHORT_PULSE } else { 0 };
+            (6, asked | u16::from(straps) << 8 | u16::from(levels))
+        }
         Event::Timeout => (7, 0),
     };
     Ok(kind << 13 | data)

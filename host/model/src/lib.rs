@@ -1,4 +1,4 @@
-//! A plain controller of the two-bay dock, written from document 01 alone.
+//! A plain controller of the two-bay dock, written from documents 01 and 02 alone.
 //!
 //! It shares nothing with the proved library but the paper: no code, no table, no definition. Where the two
 //! disagree, one of them has misread the paper, and the differential test beside this crate says on which words.

@@ -1,7 +1,7 @@
 //! The image of a state, by hand, and which bytes are none.
 
 use model::{is_image, Controller, STATE_BYTES};
-use paper::words::{byte, pins, read, reset, write, START, STOP, TICK};
+use paper::words::{byte, pins, read, reset, reset_short, write, START, STOP, TICK};
 
 /// A bay's flags where nothing is in it: seven levels high, the rest 0.
 const EMPTY: [u8; 14] = [1, 1, 1, 1, 1, 1, 1, 0, 0, 0, 0, 0, 0, 0];
@@ -34,11 +34,12 @@ fn a_fresh_state_is_two_empty_bays() {
 }
 
 #[test]
-fn a_reset_stores_straps_and_levels() {
+fn a_reset_stores_straps_levels_and_where_letr_starts() {
     // Straps 0110: address 92h, LOCK_DEF. Levels: USB in bay 0, nSL of bay 1.
-    let dock = Controller::after(&[reset(0x6, 0xBE)]);
     let places = [(1, 1), (5, 0), (8, 0), (12, 1), (13, 1), (24, 0), (27, 1), (32, 6)];
-    assert_eq!(dock.image(), with(&places));
+    let image = |word| Controller::after(&[word]).image();
+    assert_eq!(image(reset_short(0x6, 0xBE)), with(&places));
+    assert_eq!(image(reset(0x6, 0xBE)), with(&[&places[..], &[(34, 1)]].concat()));
 }
 
 #[test]

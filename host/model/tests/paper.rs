@@ -28,7 +28,7 @@ fn every_word_unpacks_to_what_packs_to_it() {
         }
         None => false,
     });
-    assert_eq!(accepted.count(), 4 + 256 + 256 + 2 + 4096);
+    assert_eq!(accepted.count(), 4 + 256 + 256 + 2 + 8192);
 }
 
 #[test]
@@ -36,15 +36,20 @@ fn the_numbers_of_a_word_leave_its_kind_out() {
     assert_eq!(numbers::unpack(0x4090), 0x9000);
     assert_eq!(numbers::unpack(0x6001), 0x0100);
     assert_eq!(numbers::unpack(0xC5BF), 0x05BF);
+    assert_eq!(numbers::unpack(0xD5BF), 1 << 24 | 0x05BF);
     assert_eq!(numbers::unpack(0xE000), 0);
     assert_eq!(numbers::unpack(0xE001), 2 << 16);
 }
 
 #[test]
 fn only_wide_straps_do_not_pack() {
-    assert_eq!(pack(Event::Reset { straps: 15, levels: 0xFF }), Ok(0xCFFF));
-    assert_eq!(pack(Event::Reset { straps: 16, levels: 0 }), Err(Refusal::WideStraps));
-    assert_eq!(numbers::pack(6, 16, 0), 6 << 16);
+    for (short_pulse, first, word) in [(false, 0x00F, 0xCFFF), (true, 0x10F, 0xDFFF)] {
+        assert_eq!(pack(Event::Reset { straps: 15, levels: 0xFF, short_pulse }), Ok(word));
+        assert_eq!(numbers::pack(6, first, 0xFF), u32::from(word));
+        assert_eq!(pack(Event::Reset { straps: 16, levels: 0, short_pulse }), Err(Refusal::WideStraps));
+        assert_eq!(numbers::pack(6, first + 1, 0), 6 << 16);
+    }
+    assert_eq!(numbers::pack(6, 0x200, 0), 2 << 16);
 }
 
 #[test]

@@ -49,8 +49,9 @@ pub fn examples() -> Vec<Example> {
         ),
         example(
             "each bit that must be 0",
-            &[&[R, 0x0001, 0x3000, 0x4100, 0x6002, 0x8100, 0xA080, 0xD0FF, 0xE001]],
-            vec![Records(vec![record(2, 0, 0, 0); 8])],
+            &[&[R, 0x0001, 0x3000, 0x4100, 0x6002, 0x8100, 0xA080, 0xE001]],
+            vec![Records(vec![record(2, 0, 0, 0); 7])],
         ),
+        example("no bit of a RESET must be 0", &[&[0xDFFF]], vec![Records(vec![record(0, 0, 0, 0x088)])]),
     ]
 }

@@ -4,8 +4,8 @@ use crate::words::{byte, pins, read, take, START, STOP};
 use crate::Expected::{Outputs, Reads, Records};
 use crate::{example, record, ticks, w, Example, N, OWN, R};
 
-/// RESET with nothing anywhere, in the pulsing lock mode.
-const N_PULSING: u16 = 0xC1FF;
+/// RESET with nothing anywhere, in the pulsing lock mode, with the short pulse.
+const N_PULSING: u16 = 0xD1FF;
 /// R with straps 1100: the own address byte is 96h.
 const R_STRAPS_1100: u16 = 0xCCBF;
 

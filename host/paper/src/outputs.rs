@@ -1,6 +1,6 @@
 //! "Outputs": power, lock pins with their pulses, lamps with their phase, the interrupt.
 
-use crate::words::{pins, reset};
+use crate::words::{pins, reset, reset_short};
 use crate::Expected::{Outputs, Reads};
 use crate::{example, ticks, w, Example, R};
 
@@ -25,6 +25,16 @@ fn pulses(code: u8, length: usize) -> Vec<Example> {
         example(name("restarted, its end"), &[&begun, &ticks(5), &unlock, &ticks(length)], vec![Outputs(0x088)]),
         example(name("0 over 0"), &[&begun, &ticks(5), &w(0x1C, 0x00), &ticks(length - 5)], vec![Outputs(0x088)]),
         example(name("locked"), &[&begun, &ticks(5), &w(0x1C, 0x80), &ticks(length - 6)], vec![Outputs(0x080)]),
+    ]
+}
+
+/// The pulse of bay 0 with no write of LETR: 50 ticks, and 12 where bit 12 of the RESET says so (document 02, request 4).
+fn pulses_unwritten(name: &str, reset: u16, length: usize) -> Vec<Example> {
+    let begun = [&[reset][..], &w(0x14, 0x80), &w(0x14, 0x00)].concat();
+    vec![
+        example(format!("{}: at once", name), &[&begun], vec![Outputs(0x008)]),
+        example(format!("{}: its last tick", name), &[&begun, &ticks(length - 1)], vec![Outputs(0x008)]),
+        example(format!("{}: its end", name), &[&begun, &ticks(length)], vec![Outputs(0x088)]),
     ]
 }
 
@@ -59,6 +69,8 @@ pub fn examples() -> Vec<Example> {
     for (code, length) in [(0, 12), (1, 50), (2, 100), (3, 200)] {
         all.extend(pulses(code, length));
     }
+    all.extend(pulses_unwritten("LETR unwritten", reset(0x1, 0xFF), 50));
+    all.extend(pulses_unwritten("LETR unwritten, short pulse", reset_short(0x1, 0xFF), 12));
     let fixed_mode = [&[reset(0x0, 0xFF)][..], &w(0x14, 0x80), &w(0x14, 0x00)].concat();
     all.push(example("no pulse in LOCK_MODE 0", &[&fixed_mode, &w(0x14, 0x80)], vec![Outputs(0x080)]));
     all.extend(lamps());

@@ -1,8 +1,11 @@
 //! "Registers": what each reads, what a write changes, and what RESET leaves.
 
-use crate::words::{pins, reset};
+use crate::words::{pins, reset, reset_short, write};
 use crate::Expected::{Outputs, Reads};
 use crate::{example, ticks, w, Example, N, R};
+
+/// R of a dock that was built on the short pulse.
+const R_SHORT: u16 = reset_short(0x0, 0xBF);
 
 /// RESET in the pulsing lock mode with a USB device in bay 1.
 const DEVICE_IN_BAY_1: u16 = reset(0x1, 0xFB);
@@ -90,13 +93,31 @@ fn letr() -> impl Iterator<Item = Example> {
     })
 }
 
-/// All that RESET sets back, after a life in both bays.
-fn after_reset() -> Example {
+/// LETR's start is the RESET's alone, with all straps and whatever LETR was before.
+fn letr_starts() -> impl Iterator<Item = Example> {
+    (0..16).flat_map(|straps| {
+        let levels = 0x11 * straps;
+        let own = 0x90 + 2 * (straps >> 2);
+        let long = reset(straps, levels);
+        let short = reset_short(straps, levels);
+        let written = |first| [&[first][..], &write(own, 0x40, 0x02)].concat();
+        let name = |what: &str| format!("straps {:X}h: LETR {}", straps, what);
+        vec![
+            example(name("starts at 1"), &[&written(short), &[long]], vec![Reads(0x40, 1)]),
+            example(name("starts at 0"), &[&written(long), &[short]], vec![Reads(0x40, 0)]),
+            example(name("is written"), &[&written(short)], vec![Reads(0x40, 2)]),
+        ]
+    })
+}
+
+/// All that RESET sets back, after a life in both bays. LETR starts at 1, and with bit 12 of the RESET at 0 (document 02,
+/// request 4).
+fn after_reset(name: &str, reset: u16, letr: u8) -> Example {
     let life = [&[R][..], &w(0x40, 0x02), &w(0x14, 0xAF), &w(0x1C, 0xCF), &[pins(0x9D)], &ticks(10)].concat();
-    let zeros = [0x0C, 0x14, 0x18, 0x1C, 0x40].map(|address| Reads(address, 0));
-    let mut expected = vec![Reads(0x10, 0x05), Outputs(0)];
+    let zeros = [0x0C, 0x14, 0x18, 0x1C].map(|address| Reads(address, 0));
+    let mut expected = vec![Reads(0x10, 0x05), Reads(0x40, letr), Outputs(0)];
     expected.extend(zeros);
-    example("RESET after a life", &[&life, &[R]], expected)
+    example(name, &[&life, &[reset]], expected)
 }
 
 pub fn examples() -> Vec<Example> {
@@ -106,6 +127,8 @@ pub fn examples() -> Vec<Example> {
     all.extend(bstr());
     all.extend(bcer());
     all.extend(letr());
-    all.push(after_reset());
+    all.push(after_reset("RESET after a life", R, 1));
+    all.push(after_reset("RESET after a life, short pulse", R_SHORT, 0));
+    all.extend(letr_starts());
     all
 }

@@ -22,6 +22,11 @@ pub const fn reset(straps: u8, levels: u8) -> u16 {
     0xC000 | (straps as u16 & 0x0F) << 8 | levels as u16
 }
 
+/// A RESET of a dock that was built on the short pulse (document 02, request 4).
+pub const fn reset_short(straps: u8, levels: u8) -> u16 {
+    0x1000 | reset(straps, levels)
+}
+
 /// A whole write; `own` is the controller's address byte for writing.
 pub const fn write(own: u8, register: u8, value: u8) -> [u16; 5] {
     [START, byte(own), byte(register), byte(value), STOP]

@@ -2,7 +2,7 @@
 
 use crate::random::Random;
 use model::MOST_WORDS;
-use paper::words::{byte, pins, reset, take, START, STOP, TICK, TIMEOUT};
+use paper::words::{byte, pins, reset, reset_short, take, START, STOP, TICK, TIMEOUT};
 
 /// Every address that means something, and neighbours that do not.
 pub const ADDRESSES: [u8; 18] =
@@ -107,13 +107,22 @@ impl Writer<'_> {
         }
     }
 
-    /// All sixteen straps, and levels from empty to anything.
+    /// All sixteen straps, levels from empty to anything, and the short pulse or not.
     fn reset(&mut self) {
         let straps = self.random.byte() & 0x0F;
         let any = self.random.byte();
         self.levels = self.random.pick(&[0xFF, 0xBF, 0xFB, 0xBB, 0x7F, 0x3F, any]);
         self.own = 0x90 + 2 * (straps >> 2);
-        self.words.push(reset(straps, self.levels));
+        let word = self.reset_word(straps);
+        self.words.push(word);
+    }
+
+    fn reset_word(&mut self, straps: u8) -> u16 {
+        if self.random.one_in(2) {
+            reset(straps, self.levels)
+        } else {
+            reset_short(straps, self.levels)
+        }
     }
 
     /// A word of a command, and sometimes something between it and the next: what a command passes over, or a
@@ -176,11 +185,13 @@ impl Writer<'_> {
         }
     }
 
-    /// LOCK_CTL from 1 to 0, which starts a pulse in the pulsing mode, with any pulse length.
+    /// LOCK_CTL from 1 to 0, which starts a pulse in the pulsing mode, with any pulse length or the one that is there.
     fn unlock(&mut self) {
         let address = self.random.pick(&CONTROLS);
         let code = self.random.byte() & 3;
-        self.write_value(0x40, code);
+        if self.random.one_in(2) {
+            self.write_value(0x40, code);
+        }
         self.write_value(address, 0x80);
         self.write_value(address, 0x00);
         if self.random.one_in(2) {
@@ -229,7 +240,8 @@ impl Writer<'_> {
             return TIMEOUT;
         }
         let address_straps = (self.own - 0x90) << 1;
-        reset(address_straps | self.random.byte() & 3, self.levels)
+        let straps = address_straps | self.random.byte() & 3;
+        self.reset_word(straps)
     }
 
     /// Any word that a command takes notice of, among them addresses of other docks.

@@ -35,7 +35,7 @@ returns-7 c = rw (c .before .enum-told3 .given .1) (c .word7 .ensures)
 
 returns-8 : tie.Need-returns-8
 unfolding packed wordOf strapsOf
-returns-8 c = rw (c .before .before .before .event4 .given .1, le-ltb 15 _ (c .before .if2 .taken)) (c .word8 .ensures)
+returns-8 c = rw (c .before .before .before .before .event4 .given .1, le-ltb 15 _ (c .before .before .if2 .taken), ← c .before .reset-data .ensures .0) (c .word8 .ensures)
 
 returns-9 : tie.Need-returns-9
 unfolding packed wordOf strapsOf
@@ -65,10 +65,7 @@ pack-spec =
     (λ c. search needs)
     (λ c κs. search needs)
     (λ c. search needs)
-    (λ c. search needs)
-    (λ c. search needs)
-    (λ c. search needs)
-    (λ c. search needs)
+    (λ c κs. search needs)
     (λ c κs. search needs)
     (λ c. search needs)
     (λ c κs. search needs)

@@ -5,10 +5,10 @@ use Rattle.test_event.proofs.resets.Statement.{statement}
 use Rattle.test_event.proofs.resets.Tie as tie
 
 abbrev Inv-loop : tie.InvT-loop
-Inv-loop from to t₀ n₀ t n = n ≤ 4294967295
+Inv-loop from to short t₀ n₀ t n = n ≤ 4294967295
 
 abbrev μ-loop : tie.MeasureT-loop
-μ-loop from to t₀ n₀ t n = to - n
+μ-loop from to short t₀ n₀ t n = to - n
 
 pub resets-spec : {M : Type 1} → statement M
 resets-spec =

@@ -59,6 +59,7 @@ pub event-by-spec : {M : Type 1} → statement M
 event-by-spec =
     tie.close
     (tie.spec
+    (λ c. search needs)
     (λ c κs. search needs)
     (λ c κs. search needs)
     (λ c κs. search needs)

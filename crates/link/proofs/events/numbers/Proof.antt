@@ -31,7 +31,7 @@ returns-6 c = rw (c .before .enum-told3 .given .1) (c .pair6 .ensures)
 
 returns-7 : tie.Need-returns-7
 unfolding numbersOf
-returns-7 c = rw (c .before .before .event4 .given .1) (c .pair7 .ensures)
+returns-7 c = rw (c .before .before .before .event4 .given .1, ← c .before .reset-first .ensures) (c .pair7 .ensures)
 
 returns-8 : tie.Need-returns-8
 unfolding numbersOf
@@ -46,6 +46,10 @@ numbers-spec =
     (λ c. search needs)
     (λ c κs. search needs)
     (λ c. search needs)
+    (λ c. search needs)
+    (λ c κs. search needs)
+    (λ c. search needs)
+    (λ c. search needs)
     (λ c κs. search needs)
     (λ c. search needs)
     (λ c. search needs)
@@ -54,7 +58,6 @@ numbers-spec =
     (λ c κs. search needs)
     (λ c. search needs)
     (λ c κs. search needs)
-    (λ c. search needs)
     (λ c κs. search needs)
     (λ c. search needs)
     (λ c κs. search needs)
