@@ -36,12 +36,22 @@ pulse-left (suc n) m i o =
     let one : bayAt (tickTo m) i .pulse ≡ bayAt m i .pulse - 1 = ap (λ (b : Bay). b .pulse) (ticked-each m i ∙ chosen o _ _) ∙ pulse-falls (bayAt m i) in
     pulse-left n (tickTo m) i o ∙ rw one (omega arith)
 
+straps-stay : (n : ℕ) (m : Machine) → ticked n m .straps ≡ m .straps
+unfolding doesAll does tickTo
+straps-stay zero m = refl
+straps-stay (suc n) m = straps-stay n (tickTo m)
+
+-- The lock pin of a bay, in the LOCK_MODE that the machine has.
+abbrev pub pin : Machine → ℕ → Bool
+pin m i = lockPin (lockMode (m .straps)) (bayAt m i)
+
 -- In LOCK_MODE 1 the pin of an open bay is low exactly as long as its pulse has ticks left.
-pub pulse-lasts : (n : ℕ) (m : Machine) (i : ℕ) → isOpen m i ≡ true → (lockPin true (bayAt (ticked n m) i) ≡ false) ↔ (n < bayAt m i .pulse)
-pulse-lasts n m i o =
+pub pulse-lasts :
+    (n : ℕ) (m : Machine) (i : ℕ) → isOpen m i ≡ true → lockMode (m .straps) ≡ true → (pin (ticked n m) i ≡ false) ↔ (n < bayAt m i .pulse)
+pulse-lasts n m i o mode =
     let left = pulse-left n m i o in
-    let pin = lock-pin-mode-1 (bayAt (ticked n m) i) in
-    (λ h. omega (arith, left, pin .0 h), λ h. pin .1 (omega (arith, left, h)))
+    let low = lock-pin-mode-1 (bayAt (ticked n m) i) in
+    rw (straps-stay n m, mode) (λ h. omega (arith, left, low .0 h), λ h. low .1 (omega (arith, left, h)))
 
 -- ---- after a RESET
 
@@ -88,10 +98,14 @@ module _ (straps levels : ℕ) (short : Bool) (i v w : ℕ) (mode : lockMode str
       ∙ ap (λ (r : Shared). pulseTicks (r .«lock_time»)) (bcer-shares i v begun l)
       ∙ start-ticks short
 
+  mode-unlocked : lockMode (unlocked i v w begun .straps) ≡ true
+  unfolding does
+  mode-unlocked = ap lockMode (write-steady (bcerAddress i) w locked .straps) ∙ mode-locked
+
   open-unlocked : isOpen (unlocked i v w begun) i ≡ true
   open-unlocked = ap (λ (r : Shared). openBy (r .«bay_count») i) (bcer-shares i w locked l) ∙ open-locked
 
   -- In LOCK_MODE 1, with LETR unwritten, the pin is low through 49 ticks and high after the 50th; with the short pulse through 11 and after
   -- the 12th.
-  pub reset-pulse : (n : ℕ) → (lockPin true (bayAt (ticked n (unlocked i v w begun)) i) ≡ false) ↔ (n < cond short 12 50)
-  reset-pulse n = rw pulse at (pulse-lasts n (unlocked i v w begun) i open-unlocked)
+  pub reset-pulse : (n : ℕ) → (pin (ticked n (unlocked i v w begun)) i ≡ false) ↔ (n < cond short 12 50)
+  reset-pulse n = rw pulse at (pulse-lasts n (unlocked i v w begun) i open-unlocked mode-unlocked)
