@@ -21,6 +21,7 @@ use Rattle.bay.proofs.Control.of.Reads as control-of-reads
 use Rattle.bay.proofs.Bay.outputs.Reads as outputs-reads
 use Rattle.bay.proofs.Bay.interrupt.Reads as interrupt-reads
 use Rattle.bay.proofs.debounce.debounced.Reads as debounced-reads
+use Rattle.bay.proofs.debounce.ticks_for.Reads as ticks-for-reads
 
 pub empty-determined : (r s : Bay) → empty-reads.Post tt tt r tt → empty-reads.Post tt tt s tt → r ≡ s
 empty-determined r s p q = p ∙ sym q
@@ -66,3 +67,6 @@ interrupt-determined b r s p q = p ∙ sym q
 
 pub debounced-determined : (length : ℕ) (level accepted : Bool) (n : ℕ) (r s : Input) → debounced-reads.Post tt (length, (level, (accepted, (n, tt)))) r (length, (level, (accepted, (n, tt)))) → debounced-reads.Post tt (length, (level, (accepted, (n, tt)))) s (length, (level, (accepted, (n, tt)))) → r ≡ s
 debounced-determined length level accepted n r s p q = p ∙ sym q
+
+pub ticks-for-determined : (i r s : ℕ) → ticks-for-reads.Post tt (i, tt) r (i, tt) → ticks-for-reads.Post tt (i, tt) s (i, tt) → r ≡ s
+ticks-for-determined i r s p q = p ∙ sym q

@@ -1,25 +1,26 @@
 -- A fit bay stays fit, whatever happens to it: each number of the record is one of those that a rule picks from, and all of these
 -- are in range. Assumes nothing.
-use Prim.Native.Nat.{ℕ, _+_, _≤_, _<_}
+use Prim.Native.Nat.{ℕ, _≤_, _<_}
 use native.Mathlib.Omega.{arith}
 use mathlib.Core.Path.{_≡_, refl}
-use mathlib.Core.Bool.{Bool, true, false, not, cond, _&&_, Bool·beq, and-eq-true-iff, and-false, false≢true}
+use mathlib.Core.Bool.{Bool, true, false, not, cond, _&&_, and-eq-true-iff, and-false, false≢true}
 use mathlib.Core.Logic.{_↔_}
 use lib.Dec.{leb, eqb}
-use borrow.Author.Tests.{lt-ltb, le-leb, ltb-true, leb-true, leb-false}
-use Rattle.bay.specs.Record.{N1394, NUSB, NREMREQ, TICKS, EMPTY, INSERTED, REMOVAL-REQUESTED, REMOVAL-ALLOWED, MOST-PULSE, count, present, emptyBay, resetBay, bayFit}
-use Rattle.bay.specs.Debounce.{differs, settles, debounce, restart, sampledBay}
+use borrow.Author.Tests.{lt-ltb, le-leb, ltb-true, leb-true}
+use Rattle.bay.specs.Record.{N1394, NUSB, NREMREQ, EMPTY, INSERTED, REMOVAL-REQUESTED, REMOVAL-ALLOWED, MOST-PULSE, count, present, emptyBay, resetBay, bayFit}
+use Rattle.bay.specs.Debounce.{sampledBay}
 use Rattle.bay.specs.Moves.{input, leaves, inUse, stateAfter, movedBay, tickedBay}
 use Rattle.bay.specs.Registers.{bstrWritten, asks, requestWritten, stateWritten, pulseWritten, controlledBay}
 use Rattle.bay.specs.declared.Bay.{Bay}
 use Rattle.bay.specs.declared.Control.{Control}
 use Rattle.bay.proofs.Taut.{pick}
+use Rattle.bay.proofs.OneStep.{counts-on, restarts}
 
 -- The parts of fitness, in the paper's numbers.
 pub record Fits (b : Bay) : Type 0 where
   pub n1394 : count b N1394 < 10
   pub nusb : count b NUSB < 10
-  pub nremreq : count b NREMREQ < 10
+  pub nremreq : count b NREMREQ < 5
   pub in-state : b .state ≤ 4
   pub asked : b .control .request ≤ 4
   pub pulsed : b .pulse ≤ 200
@@ -54,18 +55,6 @@ fit-parts b = (parts, whole)
           le-leb _ _ (f .asked),
           le-leb _ _ (f .pulsed),
         )
-
--- A count stays below the ticks that accept a level, whatever its input does.
-counts-on : (n : ℕ) (l a : Bool) (c : ℕ) → 0 < n → c < n → debounce n l a c .count < n
-unfolding debounce
-counts-on n l a c p h =
-    pick (λ k. k < n) (settles n l a c) (λ _. p)
-    (λ s. pick (λ k. k < n) (differs l a) (λ d. omega (arith, leb-false n (c + 1) (rw d at s))) (λ _. h))
-
--- So it does where PINS samples its input.
-restarts : (l a : Bool) (c : ℕ) → c < TICKS → restart l a c < TICKS
-unfolding restart
-restarts l a c h = pick (λ k. k < TICKS) (Bool·beq l a) (λ _. omega arith) (λ _. h)
 
 -- A request that is stored is a state.
 asked-is-state : (c : Control) → asks c ≡ true → c .request ≤ REMOVAL-ALLOWED
@@ -115,9 +104,9 @@ sampled-fit levels b h =
     let f = fit-parts b .0 h in
     fit-parts (sampledBay levels b) .1
     record {
-      n1394 = restarts _ _ _ (f .n1394);
-      nusb = restarts _ _ _ (f .nusb);
-      nremreq = restarts _ _ _ (f .nremreq);
+      n1394 = restarts _ _ _ _ (f .n1394);
+      nusb = restarts _ _ _ _ (f .nusb);
+      nremreq = restarts _ _ _ _ (f .nremreq);
       in-state = f .in-state;
       asked = f .asked;
       pulsed = f .pulsed;

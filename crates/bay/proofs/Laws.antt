@@ -14,13 +14,11 @@ use Rattle.bay.specs.Debounce.{differs, sampledBay}
 use Rattle.bay.specs.Moves.{input, leaves, heeded, inUse, stateAfter, movedBay, tickedBay}
 use Rattle.bay.specs.Registers.{bstrOf, bcerOf, asks, stateWritten, requestWritten, controlledBay}
 use Rattle.bay.specs.Outputs.{lockPin, green, yellow, bayOutputs}
-use Rattle.bay.specs.Held.{afterTicks, tickedFor}
 use Rattle.bay.specs.Table.{pressOver}
-use Rattle.bay.specs.Sound.{Sound}
 use Rattle.bay.specs.declared.Bay.{Bay}
 use Rattle.bay.specs.declared.Control.{Control}
 use Rattle.bay.proofs.Ticks.{left, present-after, heeded-after, changes-after}
-use Rattle.bay.proofs.Length.{restart-same, restart-other, counting, settledAt, counts-up, settles-last, follows, sampled-from-0}
+use Rattle.bay.proofs.OneStep.{restart-same, restart-other}
 
 -- ---- power
 
@@ -150,13 +148,22 @@ change-told b = rw (← (changes-after b), present-after b)
 pub press-once : (b : Bay) → b .«remreq_sts» ≡ true → present (tickedBay b) ≡ present b → tickedBay b .state ≡ b .state
 press-once b r s = stayed b s .state-kept ∙ rw (r, and-false)
 
--- A button that is held is one press: where its accepted level stays as it was, a TICK sets nothing by it, though a device arrive, and
--- moves nothing.
-pub held-button :
-    (b : Bay) → acceptedLevel (tickedBay b) NREMREQ ≡ acceptedLevel b NREMREQ
-    → (tickedBay b .«remreq_sts» ≡ b .«remreq_sts») × (present (tickedBay b) ≡ present b → tickedBay b .state ≡ b .state)
-held-button b h =
-    (pressed-sets b ∙ rw (h, and-not-self) (or-false (b .«remreq_sts»)), λ s. stayed b s .state-kept ∙ rw (heeded-after b, h, and-not-self))
+-- A TICK with no press over a device sets nothing by the button, though a device arrive, and moves nothing.
+pub record NoPress (before after : Bay) : Type 0 where
+  pub untold : after .«remreq_sts» ≡ before .«remreq_sts»
+  pub unmoved : present after ≡ present before → after .state ≡ before .state
+
+no-press : (b : Bay) → pressOver b (tickedBay b) ≡ false → NoPress b (tickedBay b)
+no-press b n =
+    record { untold = pressed-sets b ∙ rw n (or-false (b .«remreq_sts»)); unmoved = λ s. stayed b s .state-kept ∙ rw (heeded-after b, n) }
+
+-- A button that is held is one press: so it is where its accepted level stays as it was, ..
+pub held-button : (b : Bay) → acceptedLevel (tickedBay b) NREMREQ ≡ acceptedLevel b NREMREQ → NoPress b (tickedBay b)
+held-button b h = no-press b (rw (h, and-not-self))
+
+-- .. and where a button comes up that was down.
+pub released-button : (b : Bay) → acceptedLevel b NREMREQ ≡ false → NoPress b (tickedBay b)
+released-button b d = no-press b (rw d)
 
 -- ---- requests
 
@@ -274,31 +281,3 @@ sampled levels b =
     on (suc zero) l e = restart-other _ _ _ e
     on (suc (suc zero)) l e = restart-other _ _ _ e
     on (suc (suc (suc i))) l e = absurd (omega arith)
-
--- ---- debounce
-
--- An input whose level differs from the accepted one, counted from 0, settles at exactly its length of ticks: before, the accepted
--- level is the old one and the count is the ticks so far; then the level is accepted and the count is 0.
-pub debounce-length :
-    (length : ℕ) (level accepted : Bool) → 0 < length → differs level accepted ≡ true
-    → ((k : ℕ) → k < length → afterTicks length level (counting accepted 0) k ≡ counting accepted k)
-    × (afterTicks length level (counting accepted 0) length ≡ settledAt level)
-debounce-length zero level accepted l d = absurd (omega arith)
-debounce-length (suc k) level accepted l d = (counts-up (suc k) level accepted d, settles-last k level accepted d)
-
--- So in a bay: an input whose level differs, counted from 0, has its old accepted level through nine ticks and the new one at the tenth.
-pub ten-ticks :
-    (b : Bay) (i : ℕ) → i < 3 → differs (level b i) (acceptedLevel b i) ≡ true → count b i ≡ 0
-    → ((k : ℕ) → k < 10 → acceptedLevel (tickedFor k b) i ≡ acceptedLevel b i) × (acceptedLevel (tickedFor 10 b) i ≡ level b i)
-ten-ticks b i l d z =
-    let exactly = debounce-length 10 (level b i) (acceptedLevel b i) (omega arith) d in
-    (λ k h. follows k b i l .accepts ∙ rw (z, exactly .0 k h), follows 10 b i l .accepts ∙ rw (z, exactly .1))
-
--- In a sound bay an input at rest that PINS changes takes all ten ticks, whatever it did before: ticks before a rest don't count.
-pub ten-ticks-from-rest :
-    (levels : ℕ) (b : Bay) (i : ℕ) → Sound b → i < 3 → level b i ≡ acceptedLevel b i
-    → differs (level (sampledBay levels b) i) (acceptedLevel b i) ≡ true
-    → ((k : ℕ) → k < 10 → acceptedLevel (tickedFor k (sampledBay levels b)) i ≡ acceptedLevel b i)
-    × (acceptedLevel (tickedFor 10 (sampledBay levels b)) i ≡ level (sampledBay levels b) i)
-unfolding sampledBay
-ten-ticks-from-rest levels b i s l r d = ten-ticks (sampledBay levels b) i l d (sampled-from-0 levels b i l (s .still i r))

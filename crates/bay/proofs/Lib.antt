@@ -1,10 +1,15 @@
 pub mod Taut
+pub mod OneStep
+pub mod Debounced
 pub mod Fit
 pub mod Sound
-pub mod Length
 pub mod Ticks
 pub mod Laws
 pub mod Table
 pub mod Named
 pub mod Press
+pub mod Happens
+pub mod Underway
+pub mod Order
+pub mod Together
 pub mod Determined

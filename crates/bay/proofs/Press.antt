@@ -46,20 +46,20 @@ empty-without-device b s p = go (eqb (b .state) 0) refl
     go true e = eqb-true (b .state) 0 e
     go false e = absurd (false≢true (sym p ∙ s .held (eqb-false (b .state) 0 e)))
 
--- A press in the TICK in which a device arrives sets REMREQ_STS. The arrival is then the one move if DEVSTSCHG_EN is 1, and with it 0 a
--- sound bay stays Empty.
+-- A device that arrives in an Empty bay moves it to Inserted if DEVSTSCHG_EN is 1, and with it 0 the bay stays Empty, whatever is pressed.
+pub arrival : (b : Bay) → b .state ≡ 0 → present b ≡ false → present (tickedBay b) ≡ true → tickedBay b .state ≡ cond (b .control .«devstschg_en») 1 0
+unfolding tickedBay movedBay stateAfter inUse
+arrival b e p q = let device = sym (present-after b) ∙ q in rw (p, device, e, and-false)
+
+-- A press in the TICK in which a device arrives sets REMREQ_STS, and the arrival is the one move.
 pub record WithArrival (before after : Bay) : Type 0 where
   pub told : after .«remreq_sts» ≡ true
   pub one-move : after .state ≡ cond (before .control .«devstschg_en») 1 0
 
 pub press-with-arrival : (b : Bay) → Sound b → present b ≡ false → pressOver b (tickedBay b) ≡ true → WithArrival b (tickedBay b)
-unfolding tickedBay movedBay stateAfter inUse
 press-with-arrival b s p o =
-    let device = sym (present-after b) ∙ and-eq-true-iff (acceptedLevel b 2 && not (acceptedLevel (tickedBay b) 2)) (present (tickedBay b)) .0 o .1 in
-    record {
-      told = pressed-sets b ∙ rw o (or-true (b .«remreq_sts»));
-      one-move = rw (p, device, empty-without-device b s p, and-false);
-    }
+    let device = and-eq-true-iff (acceptedLevel b 2 && not (acceptedLevel (tickedBay b) 2)) (present (tickedBay b)) .0 o .1 in
+    record { told = pressed-sets b ∙ rw o (or-true (b .«remreq_sts»)); one-move = arrival b (empty-without-device b s p) p device }
 
 -- ---- a press that moves a bay, and a write that follows it
 

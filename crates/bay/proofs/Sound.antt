@@ -16,7 +16,7 @@ use Rattle.bay.specs.Registers.{bstrWritten, asks, stateWritten, control
 use Rattle.bay.specs.Sound.{Sound}
 use Rattle.bay.specs.declared.Bay.{Bay}
 use Rattle.bay.specs.declared.Control.{Control}
-use Rattle.bay.proofs.Length.{restart-same}
+use Rattle.bay.proofs.OneStep.{restart-same}
 use Rattle.bay.proofs.Taut.{implies, suppose, apply, taut}
 
 -- ---- held and waiting, as a test

@@ -1,20 +1,20 @@
 -- What a TICK comes to: where a device leaves, where none does, and where every level is the accepted one. Assumes nothing.
-use Prim.Native.Nat.{ℕ, _+_, _-_}
+use Prim.Native.Nat.{ℕ, _-_}
 use mathlib.Core.Path.{_≡_, refl, ap, _∙_}
 use mathlib.Core.Bool.{Bool, true, false, not, cond, _&&_, _||_, Bool·beq, and-true, and-false, or-false, and-not-self, not-and-self, and-eq-true-iff}
 use mathlib.Core.List.{List, [], _∷_}
-use lib.Dec.{eqb, leb}
+use lib.Dec.{eqb}
 use lib.ListN.{length, getD}
 use native.Mathlib.Omega.{arith}
 use borrow.Author.Tests.{not-true}
-use Rattle.bay.specs.Record.{N1394, NUSB, NREMREQ, TICKS, level, acceptedLevel, count, present, EMPTY, REMOVAL-ALLOWED, withInputs, withStatus}
-use Rattle.bay.specs.Debounce.{differs, debounce}
+use Rattle.bay.specs.Record.{N1394, NUSB, NREMREQ, ticksFor, level, acceptedLevel, count, present, EMPTY, REMOVAL-ALLOWED, withInputs, withStatus}
+use Rattle.bay.specs.Debounce.{differs, settles, debounce}
 use Rattle.bay.specs.Moves.{input, presentAfter, leaves, arrives, changes, pressed, heeded, stateAfter, controlAfter, requestedAfter, changedAfter, movedBay, tickedBay}
 use Rattle.bay.specs.Table.{pressOver}
 use Rattle.bay.specs.declared.Bay.{Bay}
 use Rattle.bay.specs.declared.Control.{Control}
 use Rattle.bay.specs.declared.Input.{Input}
-use Rattle.bay.proofs.Length.{counting}
+use Rattle.bay.proofs.OneStep.{counting, steady-input}
 
 -- A bay after its inputs, but for its state, REMREQ_STS, DEVSTSCHG and BCER.
 abbrev pub after : Bay → Input → Input → Input → ℕ → Bool → Bool → Control → Bay
@@ -45,10 +45,6 @@ module _ (b : Bay) (n1394 nusb nremreq : Input) where
 abbrev same : Bay → ℕ → Bool
 same b i = Bool·beq (level b i) (acceptedLevel b i)
 
-held : (level accepted : Bool) (n : ℕ) → Bool·beq level accepted ≡ true → debounce TICKS level accepted n ≡ counting accepted n
-unfolding debounce
-held level accepted n e = rw e
-
 three : {A : Type 0} (d : A) (xs : List A) → length xs ≡ 3 → getD xs 0 d ∷ getD xs 1 d ∷ getD xs 2 d ∷ [] ≡ xs
 three d [] h = absurd (omega arith)
 three d (x ∷ []) h = absurd (omega arith)
@@ -66,9 +62,9 @@ steady b la lc e =
     let p = and-eq-true-iff (same b N1394 && same b NUSB) (same b NREMREQ) .0 e in
     let q = and-eq-true-iff (same b N1394) (same b NUSB) .0 (p .0) in
     rw (
-      held (level b N1394) (acceptedLevel b N1394) (count b N1394) (q .0),
-      held (level b NUSB) (acceptedLevel b NUSB) (count b NUSB) (q .1),
-      held (level b NREMREQ) (acceptedLevel b NREMREQ) (count b NREMREQ) (p .1),
+      steady-input (ticksFor N1394) (level b N1394) (acceptedLevel b N1394) (count b N1394) (q .0),
+      steady-input (ticksFor NUSB) (level b NUSB) (acceptedLevel b NUSB) (count b NUSB) (q .1),
+      steady-input (ticksFor NREMREQ) (level b NREMREQ) (acceptedLevel b NREMREQ) (count b NREMREQ) (p .1),
       stayed b (counting (acceptedLevel b N1394) (count b N1394)) (counting (acceptedLevel b NUSB) (count b NUSB)) (counting (acceptedLevel b NREMREQ) (count b NREMREQ)) (and-not-self (present b)),
       not-and-self,
       three false (b .accepted) la,
@@ -86,12 +82,12 @@ present-after b = refl
 accepts-other : (n : ℕ) (l a : Bool) (k : ℕ) → debounce n l a k .settled ≡ differs a (debounce n l a k .accepted)
 unfolding debounce
 accepts-other n true true k = refl
-accepts-other n true false k = go (leb n (k + 1))
+accepts-other n true false k = go (settles n true false k)
   where
     go : (t : Bool) → t ≡ differs false (cond t true false)
     go true = refl
     go false = refl
-accepts-other n false true k = go (leb n (k + 1))
+accepts-other n false true k = go (settles n false true k)
   where
     go : (t : Bool) → t ≡ differs true (cond t false true)
     go true = refl
@@ -104,11 +100,11 @@ pub changes-after :
     → changes (input b N1394) (input b NUSB)
     ≡ (differs (acceptedLevel b N1394) (acceptedLevel (tickedBay b) N1394) || differs (acceptedLevel b NUSB) (acceptedLevel (tickedBay b) NUSB))
 unfolding tickedBay movedBay
-changes-after b = rw (accepts-other TICKS (level b N1394) (acceptedLevel b N1394) (count b N1394), accepts-other TICKS (level b NUSB) (acceptedLevel b NUSB) (count b NUSB))
+changes-after b = rw (accepts-other (ticksFor N1394) (level b N1394) (acceptedLevel b N1394) (count b N1394), accepts-other (ticksFor NUSB) (level b NUSB) (acceptedLevel b NUSB) (count b NUSB))
 
 pub press-after : (b : Bay) → pressed (input b NREMREQ) ≡ (acceptedLevel b NREMREQ && not (acceptedLevel (tickedBay b) NREMREQ))
 unfolding tickedBay movedBay
-press-after b = ap (λ t. t && not (input b NREMREQ .accepted)) (accepts-other TICKS (level b NREMREQ) (acceptedLevel b NREMREQ) (count b NREMREQ)) ∙ fell (acceptedLevel b NREMREQ) (input b NREMREQ .accepted)
+press-after b = ap (λ t. t && not (input b NREMREQ .accepted)) (accepts-other (ticksFor NREMREQ) (level b NREMREQ) (acceptedLevel b NREMREQ) (count b NREMREQ)) ∙ fell (acceptedLevel b NREMREQ) (input b NREMREQ .accepted)
   where
     fell : (before after : Bool) → (differs before after && not after) ≡ (before && not after)
     fell true true = refl

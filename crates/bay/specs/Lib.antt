@@ -1,8 +1,10 @@
 pub mod Record
 pub mod Debounce
+pub mod Debounced
 pub mod Moves
 pub mod Registers
 pub mod Outputs
 pub mod Sound
-pub mod Held
+pub mod Happens
+pub mod Order
 pub mod Table

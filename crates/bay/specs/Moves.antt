@@ -7,7 +7,7 @@ use Rattle.bay.specs.Record.{
   N1394,
   NUSB,
   NREMREQ,
-  TICKS,
+  ticksFor,
   level,
   acceptedLevel,
   count,
@@ -28,7 +28,7 @@ use Rattle.bay.specs.declared.Input.{Input}
 
 -- Input i after this TICK: its accepted level, its count, and whether a level was accepted.
 abbrev pub input : Bay → ℕ → Input
-input b i = debounce TICKS (level b i) (acceptedLevel b i) (count b i)
+input b i = debounce (ticksFor i) (level b i) (acceptedLevel b i) (count b i)
 
 -- The rules below are over a bay and its inputs 1394 and USB, or removal request, after this TICK.
 abbrev pub presentAfter : Input → Input → Bool

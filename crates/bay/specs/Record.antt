@@ -1,15 +1,18 @@
 -- A bay's record: how its inputs are read, its states, and the records that a closing and a RESET make (document 01,
 -- "Registers" and "Bay moves").
-use Prim.Native.Nat.{ℕ}
-use mathlib.Core.Bool.{Bool, true, false, not, _&&_, _||_}
+use Prim.Native.Nat.{ℕ, zero, suc}
+use mathlib.Core.Bool.{Bool, true, false, not, cond, _&&_, _||_}
 use mathlib.Core.List.{List, [], _∷_}
-use lib.Dec.{ltb, leb}
+use lib.Dec.{eqb, ltb, leb}
 use lib.ListN.{getD}
 use Rattle.bits.specs.Bits.{bit}
 use Rattle.bay.specs.declared.Bay.{Bay}
 use Rattle.bay.specs.declared.Control.{Control}
 
 -- The debounced inputs.
+abbrev pub INPUTS : ℕ
+INPUTS = 3
+
 abbrev pub N1394 : ℕ
 N1394 = 0
 
@@ -52,9 +55,16 @@ REMOVAL-REQUESTED = 3
 abbrev pub REMOVAL-ALLOWED : ℕ
 REMOVAL-ALLOWED = 4
 
--- A level is accepted at 10 ticks.
-abbrev pub TICKS : ℕ
-TICKS = 10
+-- A level is accepted at 10 ticks where it is of presence, and at 5 where it is of the removal request (document 02, request 5).
+abbrev pub PRESENCE-TICKS : ℕ
+PRESENCE-TICKS = 10
+
+abbrev pub REMREQ-TICKS : ℕ
+REMREQ-TICKS = 5
+
+-- So of input i.
+abbrev pub ticksFor : ℕ → ℕ
+ticksFor i = cond (eqb i NREMREQ) REMREQ-TICKS PRESENCE-TICKS
 
 -- The longest pulse, 200 ticks.
 abbrev pub MOST-PULSE : ℕ
@@ -135,8 +145,17 @@ emptyBay = fromLevels true true true true false false
 unfoldable pub resetBay : ℕ → Bool → Bay
 resetBay levels lock = fromLevels (bit 3 levels) (bit 2 levels) (bit 1 levels) (bit 0 levels) (anyAsserted (bit 3 levels) (bit 2 levels)) lock
 
--- A bay's part of fitness: debounce counts 0-9, bay state 0-4, stored request 0-4, pulse 0-200.
+-- A bay's part of fitness. A debounce count is below the ticks that accept its level: 0-9 for presence, 0-4 for the removal request ..
+abbrev pub countFits : List ℕ → ℕ → Bool
+countFits counts i = ltb (getD counts i 0) (ticksFor i)
+
+-- A test of each input below n.
+abbrev pub eachBelow : ℕ → (ℕ → Bool) → Bool
+eachBelow zero test = true
+eachBelow (suc n) test = eachBelow n test && test n
+
+-- .. bay state 0-4, stored request 0-4, pulse 0-200.
 unfoldable pub bayFit : Bay → Bool
 bayFit b =
-    ltb (count b N1394) TICKS && ltb (count b NUSB) TICKS && ltb (count b NREMREQ) TICKS && leb (b .state) REMOVAL-ALLOWED
-    && leb (b .control .request) REMOVAL-ALLOWED && leb (b .pulse) MOST-PULSE
+    eachBelow INPUTS (countFits (b .counts)) && leb (b .state) REMOVAL-ALLOWED && leb (b .control .request) REMOVAL-ALLOWED
+    && leb (b .pulse) MOST-PULSE

@@ -1,10 +1,22 @@
 // Debounce (document 01, "Bay moves"): what PINS and a TICK make of an input.
 ghost use mathlib.Core.Path.{_≡_};
 ghost use Prim.Native.Nat.{_<_};
+ghost use Rattle.bay.specs.Record.{ticksFor};
 ghost use Rattle.bay.specs.Debounce.{debounce, restart, sampledBay};
 use crate::Bay;
 use crate::Input;
 use bits::has;
+
+// For how many ticks the level of an input must differ before it is accepted.
+pub(crate) fn ticks_for(input: usize) -> u8
+    ensures { λ r. ⌜ r ≡ ticksFor input ⌝ }
+{
+    if input == Bay::NREMREQ {
+        Bay::REMREQ_TICKS
+    } else {
+        Bay::PRESENCE_TICKS
+    }
+}
 
 // A TICK: a count whose level differs rises by one; at `length` the level is accepted and the count is 0.
 pub(crate) fn debounced(length: u8, level: bool, accepted: bool, count: u8) -> Input

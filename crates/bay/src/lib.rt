@@ -34,8 +34,10 @@ impl Bay {
     pub const NUSB: usize = 1;
 
     pub const NREMREQ: usize = 2;
-    // A level is accepted once it has differed for so many ticks.
-    pub const TICKS: u8 = 10;
+    // A level is accepted once it has differed for so many ticks: of a contact, and of the removal button.
+    pub const PRESENCE_TICKS: u8 = 10;
+
+    pub const REMREQ_TICKS: u8 = 5;
     // The longest pulse that a lock time makes.
     pub const MOST_PULSE: u8 = 200;
     // Bay states.

@@ -8,6 +8,7 @@ use crate::Bay;
 use crate::Control;
 use crate::Input;
 use crate::debounce::debounced;
+use crate::debounce::ticks_for;
 
 impl Bay {
     // A device is in the bay, by its accepted levels.
@@ -78,19 +79,19 @@ impl Bay {
             return self;
         }
         let n1394 = debounced(
-            Bay::TICKS,
+            ticks_for(Bay::N1394),
             levels[Bay::N1394],
             accepted[Bay::N1394],
             counts[Bay::N1394],
         );
         let nusb = debounced(
-            Bay::TICKS,
+            ticks_for(Bay::NUSB),
             levels[Bay::NUSB],
             accepted[Bay::NUSB],
             counts[Bay::NUSB],
         );
         let nremreq = debounced(
-            Bay::TICKS,
+            ticks_for(Bay::NREMREQ),
             levels[Bay::NREMREQ],
             accepted[Bay::NREMREQ],
             counts[Bay::NREMREQ],

@@ -1,8 +1,9 @@
 // The records that a closing and a RESET make, and whether a record is fit.
 ghost use mathlib.Core.Path.{_≡_};
-ghost use Rattle.bay.specs.Record.{lockedControl, emptyBay, resetBay, bayFit};
+ghost use Rattle.bay.specs.Record.{INPUTS, countFits, eachBelow, lockedControl, emptyBay, resetBay, bayFit};
 use crate::Bay;
 use crate::Control;
+use crate::debounce::ticks_for;
 use bits::has;
 
 impl Control {
@@ -64,11 +65,22 @@ impl Bay {
         ensures { λ r. ⌜ r ≡ bayFit self ⌝ }
     {
         let counts = self.counts;
-        (counts[Bay::N1394] < Bay::TICKS)
-            & (counts[Bay::NUSB] < Bay::TICKS)
-            & (counts[Bay::NREMREQ] < Bay::TICKS)
+        counts_fit(counts)
             & (self.state <= Bay::REMOVAL_ALLOWED)
             & (self.control.request <= Bay::REMOVAL_ALLOWED)
             & (self.pulse <= Bay::MOST_PULSE)
     }
+}
+
+// Whether each count is below the ticks that accept its level.
+fn counts_fit(counts: [u8; Bay::INPUTS]) -> bool
+    ensures { λ r. ⌜ r ≡ eachBelow INPUTS (countFits counts) ⌝ }
+{
+    let mut fit = true;
+    let mut i = 0;
+    while i < Bay::INPUTS {
+        fit = fit & (counts[i] < ticks_for(i));
+        i += 1;
+    }
+    fit
 }

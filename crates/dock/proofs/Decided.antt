@@ -94,8 +94,8 @@ pub take-gives : (s : Controller) (ack : Bool) (v : ℕ) → s .progress ≡ Rea
 unfolding turnOf takeReply
 take-gives s ack v p = ap takeReply p
 
--- So pin changes between the own read byte and the TAKE don't alter the value, though levels be accepted there (from ten ticks on,
--- by ten-ticks).
+-- So pin changes between the own read byte and the TAKE don't alter the value, though levels be accepted there (the button's from five
+-- ticks on, a contact's from ten).
 abbrev pub ticksOf : ℕ → Controller → Controller
 ticksOf zero s = s
 ticksOf (suc n) s = next (ticksOf n s) Tick

@@ -42,10 +42,10 @@ bstr =
     ∷ gives (N ++ pins 0xFE) (reads 0x18 0x80)
     ∷ gives (RESET 0x07F) (reads 0x10 0x06)
     ∷ gives (RESET 0x0FB) (reads 0x18 0x05)
-    ∷ gives (R ++ pins 0x9F ++ ticks 10) (reads 0x10 0x0D)
-    ∷ gives (R ++ pins 0x9F ++ ticks 10 ++ w 0x10 0xF3) (reads 0x10 0x0D)
-    ∷ gives (R ++ pins 0x9F ++ ticks 10 ++ w 0x10 0x08) (reads 0x10 0x05)
-    ∷ gives (R ++ pins 0x9F ++ ticks 10 ++ w 0x10 0x04) (reads 0x10 0x09)
+    ∷ gives (R ++ pins 0x9F ++ ticks 5) (reads 0x10 0x0D)
+    ∷ gives (R ++ pins 0x9F ++ ticks 5 ++ w 0x10 0xF3) (reads 0x10 0x0D)
+    ∷ gives (R ++ pins 0x9F ++ ticks 5 ++ w 0x10 0x08) (reads 0x10 0x05)
+    ∷ gives (R ++ pins 0x9F ++ ticks 5 ++ w 0x10 0x04) (reads 0x10 0x09)
     ∷ []
 
 -- BCER: all of it reads back over a locked device; a request of 0 or 5-7 keeps the old one, in the register and of the bay.
@@ -106,7 +106,7 @@ dbccr =
 -- A request is the state over a device. DEVSTSCHG_EN finds a device that waits in Empty. REMREQ_EN recalls a press once, when it
 -- rises: with the enable already 1 a write keeps the state.
 abbrev requested : List ℕ
-requested = R ++ w 0x14 0x0C ++ pins 0x9F ++ ticks 10
+requested = R ++ w 0x14 0x0C ++ pins 0x9F ++ ticks 5
 
 abbrev moves : List Example
 moves =
@@ -116,36 +116,66 @@ moves =
     ∷ gives (requested ++ w 0x14 0x2C) (reads 0x10 0x2D)
     ∷ gives (requested ++ w 0x14 0x2C ++ w 0x14 0x0C) (reads 0x10 0x2D)
     ∷ gives (requested ++ w 0x14 0x2C ++ ticks 10) (reads 0x10 0x2D)
-    ∷ gives (R ++ w 0x14 0x04 ++ pins 0x9F ++ ticks 10) (reads 0x10 0x1D)
-    ∷ gives (R ++ w 0x14 0x04 ++ pins 0x9F ++ ticks 10 ++ w 0x14 0x0C) (reads 0x10 0x3D)
+    ∷ gives (R ++ w 0x14 0x04 ++ pins 0x9F ++ ticks 5) (reads 0x10 0x1D)
+    ∷ gives (R ++ w 0x14 0x04 ++ pins 0x9F ++ ticks 5 ++ w 0x14 0x0C) (reads 0x10 0x3D)
     ∷ []
 
--- ---- the removal button (document 02, request 1)
+-- ---- the removal button (document 02, requests 1 and 5)
 
--- A press over no device sets nothing, in either bay, and neither does one in the TICK in which the device leaves; a request from before
--- stays.
+-- A press over no device sets nothing, in either bay, and neither does one in the TICK in which the device leaves, which began 5 ticks
+-- after the removal; a request from before stays.
 abbrev over-nothing : List Example
 over-nothing =
-    gives (N ++ w 0x14 0x08 ++ pins 0xDF ++ ticks 10) (reads 0x10 0x00)
-    ∷ gives (N ++ w 0x1C 0x08 ++ pins 0xFD ++ ticks 10) (reads 0x18 0x00)
-    ∷ gives (R ++ w 0x14 0x2C ++ pins 0xDF ++ ticks 10) (reads 0x10 0x04)
+    gives (N ++ w 0x14 0x08 ++ pins 0xDF ++ ticks 5) (reads 0x10 0x00)
+    ∷ gives (N ++ w 0x1C 0x08 ++ pins 0xFD ++ ticks 5) (reads 0x18 0x00)
+    ∷ gives (R ++ w 0x14 0x2C ++ pins 0xFF ++ ticks 5 ++ pins 0xDF ++ ticks 5) (reads 0x10 0x04)
     ∷ gives (requested ++ pins 0xFF ++ ticks 10) (reads 0x10 0x0C)
     ∷ []
 
--- In the TICK in which a device arrives a press sets REMREQ_STS, and the arrival is the one move, if DEVSTSCHG_EN is 1. A TICK before, it
--- sets nothing; a TICK later, it moves the bay. A button that is down when the cartridge comes asks for nothing until it is pressed
--- again.
+-- In the TICK in which a device arrives a press, which began 5 ticks after it, sets REMREQ_STS, and the arrival is the one move, if
+-- DEVSTSCHG_EN is 1. A TICK before, it sets nothing; a TICK later, it moves the bay. A button that is down when the cartridge comes asks
+-- for nothing until it is pressed again.
 abbrev held : List ℕ
-held = N ++ w 0x14 0x0C ++ pins 0xDF ++ ticks 10 ++ pins 0x9F ++ ticks 10
+held = N ++ w 0x14 0x0C ++ pins 0xDF ++ ticks 5 ++ pins 0x9F ++ ticks 10
 
 abbrev with-arrival : List Example
 with-arrival =
-    gives (N ++ w 0x14 0x0C ++ pins 0x9F ++ ticks 10) (reads 0x10 0x1D)
-    ∷ gives (N ++ w 0x14 0x08 ++ pins 0x9F ++ ticks 10) (reads 0x10 0x0D)
-    ∷ gives (N ++ w 0x14 0x0C ++ pins 0xDF ++ ticks 1 ++ pins 0x9F ++ ticks 10) (reads 0x10 0x15)
-    ∷ gives (N ++ w 0x14 0x0C ++ pins 0xBF ++ ticks 1 ++ pins 0x9F ++ ticks 10) (reads 0x10 0x3D)
+    gives (N ++ w 0x14 0x0C ++ pins 0xBF ++ ticks 5 ++ pins 0x9F ++ ticks 5) (reads 0x10 0x1D)
+    ∷ gives (N ++ w 0x14 0x08 ++ pins 0xBF ++ ticks 5 ++ pins 0x9F ++ ticks 5) (reads 0x10 0x0D)
+    ∷ gives (N ++ w 0x14 0x0C ++ pins 0xBF ++ ticks 4 ++ pins 0x9F ++ ticks 6) (reads 0x10 0x15)
+    ∷ gives (N ++ w 0x14 0x0C ++ pins 0xBF ++ ticks 6 ++ pins 0x9F ++ ticks 5) (reads 0x10 0x3D)
     ∷ gives held (reads 0x10 0x15)
-    ∷ gives (held ++ pins 0xBF ++ ticks 10 ++ pins 0x9F ++ ticks 10) (reads 0x10 0x3D)
+    ∷ gives (held ++ pins 0xBF ++ ticks 5 ++ pins 0x9F ++ ticks 5) (reads 0x10 0x3D)
+    ∷ []
+
+-- A press is accepted after 5 ticks, in either bay, and one that bounces begins anew. So is a release: the next press counts after it.
+abbrev quick : List Example
+quick =
+    gives (R ++ w 0x14 0x0C ++ pins 0x9F ++ ticks 4) (reads 0x10 0x15)
+    ∷ gives (RESET 0x0FB ++ w 0x1C 0x0C ++ pins 0xF9 ++ ticks 4) (reads 0x18 0x15)
+    ∷ gives (RESET 0x0FB ++ w 0x1C 0x0C ++ pins 0xF9 ++ ticks 5) (reads 0x18 0x3D)
+    ∷ gives (R ++ w 0x14 0x0C ++ pins 0x9F ++ ticks 4 ++ pins 0xBF ++ pins 0x9F ++ ticks 4) (reads 0x10 0x15)
+    ∷ gives (requested ++ w 0x10 0x08 ++ pins 0xBF ++ ticks 4 ++ pins 0x9F ++ ticks 5) (reads 0x10 0x35)
+    ∷ gives (requested ++ w 0x10 0x08 ++ pins 0xBF ++ ticks 5 ++ pins 0x9F ++ ticks 5) (reads 0x10 0x3D)
+    ∷ []
+
+-- A removal and a press that begin together: the press goes first, and REMREQ_STS outlasts the device.
+abbrev pulled : ℕ → List ℕ
+pulled n = R ++ w 0x14 0x2C ++ pins 0xDF ++ ticks n
+
+-- An arrival and a press that begin together: the press is accepted over nothing.
+abbrev pushed : ℕ → List ℕ
+pushed n = N ++ w 0x14 0x0C ++ pins 0x9F ++ ticks n
+
+abbrev together : List Example
+together =
+    gives (pulled 4) (reads 0x10 0x25)
+    ∷ gives (pulled 5) (reads 0x10 0x3D)
+    ∷ gives (pulled 9) (reads 0x10 0x3D)
+    ∷ gives (pulled 10) (reads 0x10 0x0C)
+    ∷ gives (pushed 5) (reads 0x10 0x00)
+    ∷ gives (pushed 9) (reads 0x10 0x00)
+    ∷ gives (pushed 10) (reads 0x10 0x15)
     ∷ []
 
 -- ---- outputs
@@ -230,7 +260,7 @@ left = R ++ 0x0000 ∷ 0x4090 ∷ 0x4010 ∷ 0x0000 ∷ 0x4091 ∷ (pins 0xFF ++
 
 -- A write of BCER with the button pressed, and the press accepted, between its data byte and its STOP.
 abbrev pressed : List ℕ
-pressed = R ++ w 0x14 0xAD ++ 0x0000 ∷ 0x4090 ∷ 0x4014 ∷ 0x408D ∷ (pins 0x9F ++ ticks 10 ++ 0x2000 ∷ [])
+pressed = R ++ w 0x14 0xAD ++ 0x0000 ∷ 0x4090 ∷ 0x4014 ∷ 0x408D ∷ (pins 0x9F ++ ticks 5 ++ 0x2000 ∷ [])
 
 abbrev inside : List Example
 inside =
@@ -242,4 +272,4 @@ inside =
 
 unfoldable pub ours : List Example
 ours =
-    unstarted ++ identity ++ bstr ++ bcer ++ letr ++ short ++ dbccr ++ moves ++ over-nothing ++ with-arrival ++ lamps ++ flashing ++ locks ++ answered ++ inside
+    unstarted ++ identity ++ bstr ++ bcer ++ letr ++ short ++ dbccr ++ moves ++ over-nothing ++ with-arrival ++ quick ++ together ++ lamps ++ flashing ++ locks ++ answered ++ inside

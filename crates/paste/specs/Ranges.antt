@@ -6,7 +6,7 @@ use lib.Dec.{leb}
 
 -- The largest value of each number of a bay: three debounce counts, state, request and pulse.
 abbrev bayLasts : List ℕ
-bayLasts = 9 ∷ 9 ∷ 9 ∷ 4 ∷ 4 ∷ 200 ∷ []
+bayLasts = 9 ∷ 9 ∷ 4 ∷ 4 ∷ 4 ∷ 200 ∷ []
 
 -- .. and of each number of an image, in its order: straps, bay count, lock time and phase, then those of the bays.
 abbrev pub lasts : List ℕ

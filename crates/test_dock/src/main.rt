@@ -239,9 +239,9 @@ fn bay_limits(c: Controller, i: u8) {
     );
     limit(
         b"count of removal request",
-        9,
-        with_counts(c, i, 0, 0, 9),
-        with_counts(c, i, 0, 0, 10),
+        4,
+        with_counts(c, i, 0, 0, 4),
+        with_counts(c, i, 0, 0, 5),
     );
 }
 

@@ -1,6 +1,6 @@
 -- `bay::Bay::ticked` meets its contract: of a steady bay only the pulse falls; of another the three inputs are what `debounced`
--- ensures. Assumes nothing.
-use mathlib.Core.Path.{_≡_}
+-- ensures, over the ticks that `ticks_for` ensures. Assumes nothing.
+use mathlib.Core.Path.{_≡_, _∙_}
 use lib.ListN.{length}
 use borrow.Author.Needs.{needs}
 use Rattle.bay.specs.Moves.{tickedBay}
@@ -17,7 +17,16 @@ returns c =
 
 returns-2 : tie.Need-returns-2
 unfolding tickedBay
-returns-2 c = rw (← c .before .before .before .debounced .ensures, ← c .before .before .debounced2 .ensures, ← c .before .debounced3 .ensures) (c .moved .ensures)
+returns-2 c =
+    c .moved .ensures
+    ∙ rw (
+      c .before .before .before .before .before .debounced .ensures,
+      c .before .before .before .before .before .before .ticks-for .ensures,
+      c .before .before .before .debounced2 .ensures,
+      c .before .before .before .before .ticks-for2 .ensures,
+      c .before .debounced3 .ensures,
+      c .before .before .ticks-for3 .ensures,
+    )
 
 pub ticked-spec : {M : Type 1} → statement M
 ticked-spec =
@@ -31,13 +40,16 @@ ticked-spec =
     (λ c. search needs)
     (λ c κs. search needs)
     returns
-    (λ c. search needs)
-    (λ c. search needs)
-    (λ c. search needs)
     (λ c κs. search needs)
     (λ c. search needs)
     (λ c. search needs)
     (λ c. search needs)
+    (λ c κs. search needs)
+    (λ c κs. search needs)
+    (λ c. search needs)
+    (λ c. search needs)
+    (λ c. search needs)
+    (λ c κs. search needs)
     (λ c κs. search needs)
     (λ c. search needs)
     (λ c. search needs)

@@ -1,0 +1,83 @@
+-- Each input of a bay is debounced, presence over 10 ticks and the removal request over 5: whatever happens to the bay, an input goes as
+-- one that sees its own part of it. By cases on what happens and on the input. Assumes nothing.
+use Prim.Native.Nat.{ℕ, zero, suc, _-_, _<_}
+use native.Mathlib.Omega.{arith}
+use mathlib.Core.Path.{_≡_, refl, _∙_}
+use mathlib.Core.Bool.{Bool, true}
+use mathlib.Core.List.{List, [], _∷_}
+use Rattle.bits.specs.Bits.{bit}
+use Rattle.bay.specs.Record.{NREMREQ, ticksFor, level, acceptedLevel, emptyBay, resetBay}
+use Rattle.bay.specs.Debounce.{sampledBay}
+use Rattle.bay.specs.Debounced.{Tick, atRest, sees, seesAll, Debounced}
+use Rattle.bay.specs.Moves.{movedBay, tickedBay}
+use Rattle.bay.specs.Registers.{bstrWritten, controlledBay}
+use Rattle.bay.specs.Sound.{Sound}
+use Rattle.bay.specs.Happens.{Happens, tick, pins, bstr, bcer, happens, happensAll, line, seenOf, seen}
+use Rattle.bay.specs.declared.Bay.{Bay}
+use Rattle.bay.proofs.Debounced.{sees-more, debounced-as}
+
+-- What an input sees of what happens is what becomes of it.
+pub input-sees : (x : Happens) (b : Bay) (i : ℕ) → i < 3 → line (happens x b) i ≡ seesAll (ticksFor i) (seenOf i x) (line b i)
+unfolding happens seesAll sees tickedBay movedBay sampledBay bstrWritten controlledBay
+input-sees tick b zero l = refl
+input-sees tick b (suc zero) l = refl
+input-sees tick b (suc (suc zero)) l = refl
+input-sees tick b (suc (suc (suc i))) l = absurd (omega arith)
+input-sees (pins levels) b zero l = refl
+input-sees (pins levels) b (suc zero) l = refl
+input-sees (pins levels) b (suc (suc zero)) l = refl
+input-sees (pins levels) b (suc (suc (suc i))) l = absurd (omega arith)
+input-sees (bstr v) b i l = refl
+input-sees (bcer c mode ticks) b i l = refl
+
+follows : (xs : List Happens) (b : Bay) (i : ℕ) → i < 3 → line (happensAll xs b) i ≡ seesAll (ticksFor i) (seen i xs) (line b i)
+unfolding happensAll seesAll
+follows [] b i l = refl
+follows (x ∷ xs) b i l =
+    follows xs (happens x b) i l ∙ rw (input-sees x b i l, ← (sees-more (ticksFor i) (seenOf i x) (seen i xs) (line b i)))
+
+above-0 : (i : ℕ) → i < 3 → 0 < ticksFor i
+above-0 zero l = omega arith
+above-0 (suc zero) l = omega arith
+above-0 (suc (suc zero)) l = omega arith
+above-0 (suc (suc (suc i))) l = absurd (omega arith)
+
+-- The promise, of each input over its length ..
+pub bay-debounced : (b : Bay) (i : ℕ) → i < 3 → Debounced (ticksFor i) (seen i) (λ xs. line (happensAll xs b) i)
+unfolding happensAll
+bay-debounced b i l = debounced-as (ticksFor i) (above-0 i l) (seen i) (λ xs. line (happensAll xs b) i) (λ xs. follows xs b i l)
+
+-- .. which is 10 ticks for presence and 5 for the removal request.
+pub presence-debounced : (b : Bay) (i : ℕ) → i < 2 → Debounced 10 (seen i) (λ xs. line (happensAll xs b) i)
+presence-debounced b zero l = bay-debounced b 0 (omega arith)
+presence-debounced b (suc zero) l = bay-debounced b 1 (omega arith)
+presence-debounced b (suc (suc i)) l = absurd (omega arith)
+
+pub button-debounced : (b : Bay) → Debounced 5 (seen NREMREQ) (λ xs. line (happensAll xs b) NREMREQ)
+button-debounced b = bay-debounced b NREMREQ (omega arith)
+
+-- ---- where it begins
+
+-- RESET leaves each input at rest at the level given, and the closing of the bay at 1.
+pub reset-line : (levels : ℕ) (lock : Bool) (i : ℕ) → i < 3 → line (resetBay levels lock) i ≡ atRest (bit (3 - i) levels)
+unfolding resetBay
+reset-line levels lock zero l = refl
+reset-line levels lock (suc zero) l = refl
+reset-line levels lock (suc (suc zero)) l = refl
+reset-line levels lock (suc (suc (suc i))) l = absurd (omega arith)
+
+pub empty-line : (i : ℕ) → i < 3 → line emptyBay i ≡ atRest true
+unfolding emptyBay
+empty-line zero l = refl
+empty-line (suc zero) l = refl
+empty-line (suc (suc zero)) l = refl
+empty-line (suc (suc (suc i))) l = absurd (omega arith)
+
+-- In a sound bay an input whose level is the accepted one is at rest: ticks before that don't count.
+pub resting : (b : Bay) (i : ℕ) → Sound b → level b i ≡ acceptedLevel b i → line b i ≡ atRest (acceptedLevel b i)
+resting b i s e = rw (e, s .still i e)
+
+-- A TICK makes of it what it makes of an input.
+pub ticked-line : (b : Bay) (i : ℕ) → i < 3 → line (tickedBay b) i ≡ sees (ticksFor i) Tick (line b i)
+unfolding happens seesAll
+ticked-line b i l = input-sees tick b i l

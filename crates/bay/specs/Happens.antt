@@ -1,0 +1,44 @@
+-- What happens to a bay from one RESET to the next, while it is open, and what each of its inputs sees of that.
+use Prim.Native.Nat.{ℕ, _-_}
+use mathlib.Core.Bool.{Bool}
+use mathlib.Core.List.{List, [], _∷_, _++_}
+use Rattle.bits.specs.Bits.{bit}
+use Rattle.bay.specs.Record.{level, acceptedLevel, count}
+use Rattle.bay.specs.Debounce.{sampledBay}
+use Rattle.bay.specs.Debounced.{Line, Seen, Tick, Sample}
+use Rattle.bay.specs.Moves.{tickedBay}
+use Rattle.bay.specs.Registers.{bstrWritten, controlledBay}
+use Rattle.bay.specs.declared.Bay.{Bay}
+use Rattle.bay.specs.declared.Control.{Control}
+
+-- A TICK, PINS with its four levels, a write of BSTR, and a write of BCER in a LOCK_MODE with LETR's ticks.
+pub data Happens : Type 0 where
+  tick : Happens
+  pins : ℕ → Happens
+  bstr : ℕ → Happens
+  bcer : Control → Bool → ℕ → Happens
+
+unfoldable pub happens : Happens → Bay → Bay
+happens tick b = tickedBay b
+happens (pins levels) b = sampledBay levels b
+happens (bstr v) b = bstrWritten v b
+happens (bcer c mode ticks) b = controlledBay c mode ticks b
+
+unfoldable pub happensAll : List Happens → Bay → Bay
+happensAll [] b = b
+happensAll (x ∷ xs) b = happensAll xs (happens x b)
+
+-- Input i of a bay as it stands.
+abbrev pub line : Bay → ℕ → Line
+line b i = record { level = level b i; accepted = acceptedLevel b i; count = count b i }
+
+-- What it sees: every TICK, its own level in each PINS (n1394, nUSB, nREMREQ from bit 3 down), and nothing of a write.
+abbrev pub seenOf : ℕ → Happens → List Seen
+seenOf i tick = Tick ∷ []
+seenOf i (pins levels) = Sample (bit (3 - i) levels) ∷ []
+seenOf i (bstr v) = []
+seenOf i (bcer c mode ticks) = []
+
+abbrev pub seen : ℕ → List Happens → List Seen
+seen i [] = []
+seen i (x ∷ xs) = seenOf i x ++ seen i xs
