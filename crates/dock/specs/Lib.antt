@@ -10,3 +10,4 @@ pub mod Moves
 pub mod Parts
 pub mod Remreq
 pub mod Letr
+pub mod Inputs

@@ -13,5 +13,6 @@ pub mod Drives
 pub mod Moves
 pub mod Remreq
 pub mod Letr
+pub mod Inputs
 pub mod Pulse
 pub mod Determined

@@ -20,6 +20,7 @@ use Rattle.bay.proofs.Named.{bstr-clears}
 use Rattle.machine.specs.Record.{bayAt, bayIn, openBy, isOpen}
 use Rattle.machine.specs.Registers.{dbccrStored, dbccrWrite, letrWrite, pulseTicks, bstrWrite, bcerWrite, writes, written}
 use Rattle.machine.specs.Moves.{bcerAddress, closes, movesBay}
+use Rattle.machine.specs.Inputs.{ownLevels}
 use Rattle.machine.specs.Acts.{resetTo, sampledAt, tickedAt, pinsTo, tickTo, does}
 use Rattle.machine.specs.declared.Machine.{Machine}
 use Rattle.machine.specs.declared.Act.{Act}
@@ -43,6 +44,19 @@ unfolding tickTo tickedAt bayIn openBy
 ticked-each m i = go (eqb i 0)
   where
     go : (z : Bool) → cond z (tickedAt m 0) (tickedAt m 1) ≡ cond (z || isOpen m 1) (tickedBay (cond z (bayAt m 0) (bayAt m 1))) (cond z (bayAt m 0) (bayAt m 1))
+    go true = refl
+    go false = refl
+
+-- So does PINS, with the bay's own levels.
+pub sampled-each :
+    (levels : ℕ) (m : Machine) (i : ℕ) → bayAt (pinsTo levels m) i ≡ cond (isOpen m i) (sampledBay (ownLevels i levels) (bayAt m i)) (bayAt m i)
+unfolding pinsTo sampledAt bayIn openBy
+sampled-each levels m i = go (eqb i 0)
+  where
+    go :
+        (z : Bool)
+        → cond z (sampledAt m 0 (levels / 16)) (sampledAt m 1 (levels % 16))
+        ≡ cond (z || isOpen m 1) (sampledBay (cond z (levels / 16) (levels % 16)) (cond z (bayAt m 0) (bayAt m 1))) (cond z (bayAt m 0) (bayAt m 1))
     go true = refl
     go false = refl
 
@@ -86,15 +100,8 @@ Still m i after = bayAt after i .state ≡ bayAt m i .state
 pub pins-keep :
     {A : Type 0} (field : Bay → A) → ((levels : ℕ) (b : Bay) → field (sampledBay levels b) ≡ field b)
     → (levels : ℕ) (m : Machine) (i : ℕ) → field (bayAt (pinsTo levels m) i) ≡ field (bayAt m i)
-unfolding pinsTo sampledAt bayIn
-pins-keep field kept levels m i = go (eqb i 0)
-  where
-    at-bay : (j n : ℕ) → field (sampledAt m j n) ≡ field (bayAt m j)
-    at-bay j n = pick (λ (b : Bay). field b ≡ field (bayAt m j)) (isOpen m j) (λ o. kept n (bayAt m j)) (λ o. refl)
-
-    go : (z : Bool) → field (cond z (sampledAt m 0 (levels / 16)) (sampledAt m 1 (levels % 16))) ≡ field (cond z (bayAt m 0) (bayAt m 1))
-    go true = at-bay 0 (levels / 16)
-    go false = at-bay 1 (levels % 16)
+pins-keep field kept levels m i =
+    ap field (sampled-each levels m i) ∙ pick (λ (b : Bay). field b ≡ field (bayAt m i)) (isOpen m i) (λ o. kept _ (bayAt m i)) (λ o. refl)
 
 pins-still : (levels : ℕ) (m : Machine) (i : ℕ) → Still m i (pinsTo levels m)
 unfolding Still

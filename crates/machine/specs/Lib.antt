@@ -7,3 +7,4 @@ pub mod Kept
 pub mod Moves
 pub mod Remreq
 pub mod Letr
+pub mod Inputs
