@@ -1,11 +1,11 @@
 -- Damaged images of a fresh controller, one of each kind, and what each is told to be. Assumes nothing.
 use Prim.Native.Nat.{ℕ}
 use mathlib.Core.Path.{_≡_, refl}
-use mathlib.Core.Bool.{false}
+use mathlib.Core.Bool.{true, false}
 use mathlib.Core.List.{List}
 use lib.ListN.{set, drop}
-use Rattle.bay.specs.Record.{emptyBay}
-use Rattle.machine.specs.Record.{freshMachine, fits}
+use Rattle.bay.specs.Record.{emptyBay, bayFit}
+use Rattle.machine.specs.Record.{bayIn, freshMachine, fits}
 use Rattle.dock.specs.Record.{freshController}
 use Rattle.image.specs.Save.{progressBytes, saved}
 use Rattle.image.specs.Load.{firstOver, progressVerdict, sizedVerdict, verdictOn, stateIn}
@@ -17,7 +17,8 @@ damaged i b = set (saved freshController) i b
 
 pub record Told : Type 0 where
   pub short : verdictOn (drop 1 (saved freshController)) ≡ WrongLength
-  pub version : verdictOn (damaged 0 2) ≡ UnknownVersion
+  -- The layout before this one.
+  pub version : verdictOn (damaged 0 1) ≡ UnknownVersion
   pub first-flag : verdictOn (damaged 1 2) ≡ NotAFlag 1
   pub last-flag : verdictOn (damaged 31 255) ≡ NotAFlag 31
   pub progress : verdictOn (damaged 48 7) ≡ UnknownProgress
@@ -26,9 +27,13 @@ pub record Told : Type 0 where
   -- A number out of its range is no damage to the image: the state is loaded as it is, and is not fit.
   pub phase : verdictOn (damaged 35 200) ≡ Whole
   pub unfit : fits (stateIn (damaged 35 200) .machine) ≡ false
+  -- Of the removal request count 4 is the last that fits.
+  pub button : verdictOn (damaged 38 5) ≡ Whole
+  pub button-fit : fits (stateIn (damaged 38 4) .machine) ≡ true
+  pub button-unfit : fits (stateIn (damaged 38 5) .machine) ≡ false
 
 pub damage-told : Told
-unfolding verdictOn sizedVerdict progressVerdict firstOver stateIn saved progressBytes freshController freshMachine emptyBay fits
+unfolding verdictOn sizedVerdict progressVerdict firstOver stateIn saved progressBytes freshController freshMachine emptyBay bayIn fits bayFit
 damage-told =
     record {
       short = refl;
@@ -40,4 +45,7 @@ damage-told =
       second-byte = refl;
       phase = refl;
       unfit = refl;
+      button = refl;
+      button-fit = refl;
+      button-unfit = refl;
     }

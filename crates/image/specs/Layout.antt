@@ -4,7 +4,7 @@ use Prim.Native.Nat.{ℕ}
 
 -- The version rises whenever a byte, what it may hold or the length changes.
 abbrev pub LAYOUT : ℕ
-LAYOUT = 1
+LAYOUT = 2
 
 abbrev pub BYTES : ℕ
 BYTES = 51

@@ -34,7 +34,7 @@ bayPlaces b flags numbers =
 
 abbrev pub placesOf : Machine → List (ℕ × ℕ)
 placesOf m =
-    ((0, 1)
+    ((0, 2)
     ∷ (1, flagByte (m .started))
     ∷ (2, flagByte (m .shared .«dbccr_written»))
     ∷ (3, flagByte (m .shared .seclock))

@@ -7,7 +7,7 @@ use dock::Controller;
 // ---- the layout: its version, then the flags, each a byte of 0 or 1, then the numbers, then the command in progress
 
 // The version rises whenever a byte, what it may hold or the length changes.
-pub const LAYOUT: u8 = 1;
+pub const LAYOUT: u8 = 2;
 
 pub const BYTES: usize = 51;
 
