@@ -81,6 +81,25 @@ impl<'a> Program<'a> {
     }
 }
 
+/// What goes on after a statement.
+enum Flow {
+    On,
+    Returned,
+    /// What encloses this many further blocks or loops is left, or begun again where it is a loop.
+    Exit(usize),
+}
+
+impl Flow {
+    /// As it is outside of one block or loop.
+    fn out(self) -> Flow {
+        match self {
+            Flow::Exit(0) => Flow::On,
+            Flow::Exit(further) => Flow::Exit(further - 1),
+            flow => flow,
+        }
+    }
+}
+
 struct Run<'p, 'a, 'c> {
     program: &'p Program<'a>,
     least: usize,
@@ -262,20 +281,25 @@ impl Run<'_, '_, '_> {
         arms.part(1)
     }
 
-    /// Says whether the function has returned.
-    fn statement(&mut self, tree: &Tree) -> bool {
+    fn statement(&mut self, tree: &Tree) -> Flow {
         match tree.head() {
-            "seq" => self.statement(tree.part(1)) || self.statement(tree.part(2)),
-            "skip" => false,
-            "return" => true,
+            "seq" => match self.statement(tree.part(1)) {
+                Flow::On => self.statement(tree.part(2)),
+                left => left,
+            },
+            "skip" => Flow::On,
+            "return" => Flow::Returned,
+            "exit" => Flow::Exit(tree.part(1).number() as usize),
+            "block" => self.statement(tree.part(1)).out(),
+            "loop" => self.repeat(tree.part(1)),
             "assign" => {
                 let value = self.value(tree.part(2), tree.part(1));
                 self.write(tree.part(1), value);
-                false
+                Flow::On
             }
             "call" => {
                 self.call(tree);
-                false
+                Flow::On
             }
             "if" => {
                 let taken = self.operand(tree.part(1)).int() == 1;
@@ -286,6 +310,15 @@ impl Run<'_, '_, '_> {
                 self.statement(self.arm(tree.part(2), on))
             }
             other => panic!("`{}` is no statement that this program knows", other),
+        }
+    }
+
+    fn repeat(&mut self, body: &Tree) -> Flow {
+        loop {
+            match self.statement(body).out() {
+                Flow::On => {}
+                left => return left,
+            }
         }
     }
 }
