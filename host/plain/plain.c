@@ -1,4 +1,4 @@
-/* The dock's controller as firmware C: one file, state in place, written by hand from document 01.
+/* The dock's controller as firmware C: one file, state in place, written by hand from documents 01 and 02.
  *
  * It is a yardstick for the benchmark and nothing else. Its calls have the shape of the library's (include/dock.h):
  * each begins with a fresh controller, and answers with a refusal number times 65,536 plus a value. */
@@ -9,7 +9,8 @@
 enum {
     BAYS = 2,
     INPUTS = 3,
-    SETTLED_TICKS = 10,
+    PRESENCE_TICKS = 10,
+    BUTTON_TICKS = 5,
     PHASES = 200,
     LIT_PHASES = 100,
     MOST_WORDS = 16384,
@@ -62,6 +63,7 @@ enum { SHORT_PULSE = 0x1000 }; /* of a RESET: LETR starts at 0, not at 1 */
 static const uint16_t data_bits[8] = {0, 0, 0x00FF, 0x0001, 0x00FF, 0, 0x1FFF, 0};
 static const uint8_t pulse_ticks[4] = {12, 50, 100, 200};
 static const uint8_t input_bits[INPUTS] = {N1394, NUSB, NREMREQ};
+static const uint8_t input_ticks[INPUTS] = {PRESENCE_TICKS, PRESENCE_TICKS, BUTTON_TICKS};
 
 static bool is_present(const struct bay *bay) { return (bay->accepted & PRESENCE) != PRESENCE; }
 
@@ -88,7 +90,7 @@ static uint8_t debounce(struct bay *bay) {
     uint8_t differing = bay->levels ^ bay->accepted;
     uint8_t changed = 0;
     for (int input = 0; input < INPUTS; input++) {
-        if ((differing & input_bits[input]) && ++bay->counts[input] == SETTLED_TICKS) {
+        if ((differing & input_bits[input]) && ++bay->counts[input] == input_ticks[input]) {
             bay->counts[input] = 0;
             changed |= input_bits[input];
         }

@@ -4,11 +4,13 @@ use model::STATE_BYTES;
 use std::ops::Range;
 use trial::Random;
 
+const LAYOUT: u8 = 2;
+
 const FLAGS: Range<usize> = 1..32;
 
 /// The last fit value of each number from byte 32 on.
 const NUMBERS: usize = 32;
-const MOST: [u8; 16] = [15, 3, 3, 199, 9, 9, 9, 4, 4, 200, 9, 9, 9, 4, 4, 200];
+const MOST: [u8; 16] = [15, 3, 3, 199, 9, 9, 4, 4, 4, 200, 9, 9, 4, 4, 4, 200];
 
 const PROGRESS: usize = 48;
 
@@ -23,7 +25,7 @@ pub fn noise(random: &mut Random, length: usize) -> Vec<u8> {
 /// a byte that no image has.
 pub fn made(random: &mut Random) -> Vec<u8> {
     let mut bytes = vec![0; STATE_BYTES];
-    bytes[0] = 1;
+    bytes[0] = LAYOUT;
     FLAGS.for_each(|place| bytes[place] = random.byte() & 1);
     // A state that never started does nothing, so most have.
     bytes[1] |= u8::from(!random.one_in(8));

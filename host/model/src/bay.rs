@@ -7,11 +7,24 @@ const NREMREQ: u8 = 2;
 pub(crate) const NSL: u8 = 1;
 
 const PRESENCE: u8 = N1394 | NUSB;
-pub(crate) const DEBOUNCED: [u8; 3] = [N1394, NUSB, NREMREQ];
-const ANY_DEBOUNCED: u8 = N1394 | NUSB | NREMREQ;
+const ANY_DEBOUNCED: u8 = PRESENCE | NREMREQ;
 
-/// A level is accepted once it has differed for this many ticks.
-const SETTLED_TICKS: u8 = 10;
+/// For so many ticks a level must differ from the accepted one, and is then accepted itself: a button is to feel quick.
+const PRESENCE_TICKS: u8 = 10;
+const BUTTON_TICKS: u8 = 5;
+
+/// A debounced input: its bit among the levels, and its ticks. A count below them is fit.
+#[derive(Clone, Copy)]
+pub(crate) struct Input {
+    pub(crate) bit: u8,
+    pub(crate) ticks: u8,
+}
+
+pub(crate) const DEBOUNCED: [Input; 3] = [
+    Input { bit: N1394, ticks: PRESENCE_TICKS },
+    Input { bit: NUSB, ticks: PRESENCE_TICKS },
+    Input { bit: NREMREQ, ticks: BUTTON_TICKS },
+];
 
 /// Lamps flash with this many lit phases out of 200.
 const LIT_PHASES: u8 = 100;
@@ -103,7 +116,7 @@ impl Bay {
     pub fn pins(&mut self, levels: u8) {
         self.levels = levels;
         for (count, input) in self.counts.iter_mut().zip(DEBOUNCED) {
-            if (levels ^ self.accepted) & input == 0 {
+            if (levels ^ self.accepted) & input.bit == 0 {
                 *count = 0;
             }
         }
@@ -135,12 +148,12 @@ impl Bay {
     fn debounce(&mut self) {
         let differing = self.levels ^ self.accepted;
         for (count, input) in self.counts.iter_mut().zip(DEBOUNCED) {
-            if differing & input == 0 {
+            if differing & input.bit == 0 {
                 continue;
             }
             *count += 1;
-            if *count == SETTLED_TICKS {
-                self.accepted ^= input;
+            if *count == input.ticks {
+                self.accepted ^= input.bit;
                 *count = 0;
             }
         }

@@ -11,14 +11,13 @@ use crate::Controller;
 /// The length of an image.
 pub const STATE_BYTES: usize = 51;
 
-const VERSION: u8 = 1;
+const VERSION: u8 = 2;
 
-/// The last of each number that the paper calls fit.
+/// The last of each number that the paper calls fit; that of a debounce count follows from its input.
 const MOST_STRAPS: u8 = 15;
 const MOST_BAY_COUNT: u8 = 3;
 const MOST_LOCK_TIME: u8 = 3;
 const MOST_PHASE: u8 = 199;
-const MOST_COUNT: u8 = 9;
 const MOST_REQUEST: u8 = 4;
 const MOST_PULSE: u8 = 200;
 
@@ -120,8 +119,8 @@ impl Writer {
     }
 
     fn bay_flags(&mut self, bay: &Bay) {
-        self.flags(&DEBOUNCED.map(|input| bay.levels & input != 0));
-        self.flags(&DEBOUNCED.map(|input| bay.accepted & input != 0));
+        self.flags(&DEBOUNCED.map(|input| bay.levels & input.bit != 0));
+        self.flags(&DEBOUNCED.map(|input| bay.accepted & input.bit != 0));
         let control = bay.control;
         self.flags(&[bay.levels & NSL != 0, bay.remreq_status, bay.devstschg, control.lock]);
         self.flags(&[control.remreq_enable, control.devstschg_enable, control.remevtwak_enable, control.power]);
@@ -155,7 +154,7 @@ impl Reader<'_> {
     }
 
     fn levels(&mut self) -> u8 {
-        DEBOUNCED.iter().fold(0, |levels, input| if self.flag() { levels | input } else { levels })
+        DEBOUNCED.iter().fold(0, |levels, input| if self.flag() { levels | input.bit } else { levels })
     }
 
     /// A bay with its flags read, and its numbers not yet.
@@ -179,8 +178,8 @@ impl Reader<'_> {
     }
 
     fn bay_numbers(&mut self, bay: &mut Bay) -> Option<()> {
-        for count in &mut bay.counts {
-            *count = self.number(MOST_COUNT)?;
+        for (count, input) in bay.counts.iter_mut().zip(DEBOUNCED) {
+            *count = self.number(input.ticks - 1)?;
         }
         bay.state = State::of_number(self.take())?;
         bay.request = self.number(MOST_REQUEST)?;

@@ -8,7 +8,7 @@ const EMPTY: [u8; 14] = [1, 1, 1, 1, 1, 1, 1, 0, 0, 0, 0, 0, 0, 0];
 
 fn fresh() -> [u8; STATE_BYTES] {
     let mut image = [0; STATE_BYTES];
-    image[0] = 1;
+    image[0] = 2;
     image[4..18].copy_from_slice(&EMPTY);
     image[18..32].copy_from_slice(&EMPTY);
     image
@@ -79,8 +79,7 @@ fn what_is_no_image() {
     assert!(!is_image(&image[..50]));
     assert!(!is_image(&[&image[..], &[0]].concat()));
     assert!(!is_image(&[]));
-    assert!(!is_image(&with(&[(0, 0)])));
-    assert!(!is_image(&with(&[(0, 2)])));
+    [0, 1, 3].iter().for_each(|&version| assert!(!is_image(&with(&[(0, version)]))));
     (1..32).for_each(|flag| assert!(!is_image(&with(&[(flag, 2)])), "flag {}", flag));
     assert!(!is_image(&with(&[(48, 7)])));
     (0..3).for_each(|progress| assert!(!is_image(&with(&[(48, progress), (49, 1)]))));
@@ -89,7 +88,7 @@ fn what_is_no_image() {
 
 #[test]
 fn numbers_are_fit_up_to_the_papers_limits() {
-    let of_bays = [36, 42].into_iter().flat_map(|bay| [9, 9, 9, 4, 4, 200].into_iter().zip(bay..));
+    let of_bays = [36, 42].into_iter().flat_map(|bay| [9, 9, 4, 4, 4, 200].into_iter().zip(bay..));
     let limits = [15, 3, 3, 199].into_iter().zip(32..).chain(of_bays);
     assert_eq!(limits.clone().count(), 16);
     for (most, place) in limits {
@@ -129,6 +128,19 @@ fn a_pulse_in_the_other_lock_mode_falls_and_does_not_show() {
     assert_eq!(dock.outputs(), 0x080);
     dock.step(TICK);
     assert_eq!(dock.image(), with(&[(1, 1), (13, 1), (35, 1), (41, 1)]));
+}
+
+#[test]
+fn a_saved_count_goes_on_to_its_inputs_ticks() {
+    // A device in bay 0 that is one tick from being accepted, and a press that is one and two ticks from it.
+    let ticked = |count| {
+        let mut dock = loaded(&with(&[(1, 1), (5, 0), (6, 0), (37, 9), (38, count)]));
+        dock.step(TICK);
+        dock.image()
+    };
+    let arrived = [(1, 1), (5, 0), (6, 0), (8, 0), (12, 1), (35, 1)];
+    assert_eq!(ticked(4), with(&[&arrived[..], &[(9, 0), (11, 1)]].concat()));
+    assert_eq!(ticked(3), with(&[&arrived[..], &[(38, 4)]].concat()));
 }
 
 #[test]

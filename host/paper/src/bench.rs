@@ -2,7 +2,7 @@
 
 use crate::words::{byte, pins, read, take, START, STOP};
 use crate::Expected::{Outputs, Reads, Records};
-use crate::{example, record, ticks, w, Example, N, OWN, R};
+use crate::{example, hold, record, ticks, w, Example, N, OWN, R};
 
 /// RESET with nothing anywhere, in the pulsing lock mode, with the short pulse.
 const N_PULSING: u16 = 0xD1FF;
@@ -32,8 +32,8 @@ const LAST_OF_TRACE: [u8; 4] = [0x06, 0x2A, 0x41, 0x00];
 
 fn numbered() -> Vec<Example> {
     let trial = [&[N][..], &w(0x14, 0x04), &[pins(0xBF)]].concat();
-    let bounced = [&trial[..], &ticks(5), &[pins(0xFF), pins(0xBF)], &ticks(9)].concat();
-    let removal = |value| [&[R][..], &w(0x10, 0x04), &w(0x14, value), &[pins(0xFF)], &ticks(10)].concat();
+    let bounced = [&trial[..], &ticks(5), &[pins(0xFF)], &hold(0xBF, 9)].concat();
+    let removal = |value| [&[R][..], &w(0x10, 0x04), &w(0x14, value), &hold(0xFF, 10)].concat();
     let unlock = [&[N_PULSING][..], &w(0x14, 0x80), &w(0x14, 0x00)].concat();
     vec![
         example("P1", &[&[R]], vec![Reads(0x10, 0x05)]),

@@ -2,7 +2,7 @@
 
 use crate::words::{byte, pins, read, take, START, STOP, TICK, TIMEOUT};
 use crate::Expected::{Reads, Records};
-use crate::{example, record, ticks, w, Example, Expected, N, OWN, R};
+use crate::{example, hold, record, w, Example, Expected, N, OWN, R};
 
 /// The last word's reply, where no output is on.
 fn replies(reply: u32, byte: u8) -> Vec<Expected> {
@@ -28,7 +28,7 @@ fn drives_nothing() -> Vec<Expected> {
 pub fn examples() -> Vec<Example> {
     let without_stop = &w(0x14, 0x04)[..4];
     let open_read = &read(OWN, 0x10);
-    let device = [&[pins(0xBF)][..], &ticks(10)].concat();
+    let device = hold(0xBF, 10);
     let read_id = &read(OWN, 0x00);
     vec![
         example("a write without its STOP", &[&[R], without_stop], vec![Reads(0x10, 0x05)]),

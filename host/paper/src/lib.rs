@@ -7,6 +7,7 @@ mod batch;
 mod bays;
 mod bench;
 mod bus;
+mod buttons;
 mod outputs;
 mod registers;
 pub mod words;
@@ -46,6 +47,7 @@ pub fn examples() -> Vec<Example> {
         bus::examples(),
         registers::examples(),
         bays::examples(),
+        buttons::examples(),
         outputs::examples(),
         bench::examples(),
     ]
@@ -72,6 +74,11 @@ fn w(register: u8, value: u8) -> [u16; 5] {
 
 fn ticks(count: usize) -> Vec<u16> {
     vec![words::TICK; count]
+}
+
+/// The inputs change, and stay so for this many ticks.
+fn hold(levels: u8, count: usize) -> Vec<u16> {
+    [&[words::pins(levels)][..], &ticks(count)].concat()
 }
 
 /// A record: refusal 4 bits, reply 3, byte 8, outputs 9, eight zero bits.

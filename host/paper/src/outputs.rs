@@ -1,8 +1,8 @@
 //! "Outputs": power, lock pins with their pulses, lamps with their phase, the interrupt.
 
-use crate::words::{pins, reset, reset_short};
+use crate::words::{reset, reset_short};
 use crate::Expected::{Outputs, Reads};
-use crate::{example, ticks, w, Example, R};
+use crate::{example, hold, ticks, w, Example, R};
 
 fn lock_straps() -> impl Iterator<Item = Example> {
     let straps = [(0x0, 0x00, 0x000), (0x1, 0x00, 0x088), (0x2, 0x80, 0x088), (0x3, 0x00, 0x088)];
@@ -50,7 +50,7 @@ fn lamps() -> impl Iterator<Item = Example> {
 
 fn power_and_interrupt() -> Vec<Example> {
     let both = reset(0, 0xBB);
-    let pressed = [&[both, pins(0x99)][..], &ticks(10), &w(0x10, 0x04), &w(0x18, 0x04)].concat();
+    let pressed = [&[both][..], &hold(0x99, 5), &w(0x10, 0x04), &w(0x18, 0x04)].concat();
     vec![
         example("Enabled is steady", &[&[R], &w(0x14, 0x20), &ticks(150)], vec![Outputs(0x040)]),
         example("Removal Allowed is dark", &[&[R], &w(0x14, 0x40)], vec![Outputs(0)]),

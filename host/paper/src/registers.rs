@@ -2,7 +2,7 @@
 
 use crate::words::{pins, reset, reset_short, write};
 use crate::Expected::{Outputs, Reads};
-use crate::{example, ticks, w, Example, N, R};
+use crate::{example, hold, w, Example, N, R};
 
 /// R of a dock that was built on the short pulse.
 const R_SHORT: u16 = reset_short(0x0, 0xBF);
@@ -34,7 +34,7 @@ fn closed_bay() -> Vec<Example> {
     let mut all = vec![
         example("count 1", &[&closed], empty()),
         example("count 1, then a write", &[&closed, &w(0x1C, 0xFF), &w(0x18, 0x0C)], empty()),
-        example("count 1, then pins and ticks", &[&closed, &[pins(0xF2)], &ticks(10)], empty()),
+        example("count 1, then pins and ticks", &[&closed, &hold(0xF2, 10)], empty()),
         example("count 1, then RESET", &[&closed, &[DEVICE_IN_BAY_1]], vec![Reads(0x18, 0x05), Outputs(0x088)]),
         example("count 1 leaves bay 0", &[&[R], &w(0x0C, 0x11), &w(0x14, 0x20)], vec![Reads(0x10, 0x25)]),
     ];
@@ -46,7 +46,7 @@ fn closed_bay() -> Vec<Example> {
 }
 
 fn bstr() -> Vec<Example> {
-    let pressed = [&[reset(0, 0x3F), pins(0x1F)][..], &ticks(10)].concat();
+    let pressed = [&[reset(0, 0x3F)][..], &hold(0x1F, 5)].concat();
     vec![
         example("BSTR, both devices", &[&[reset(0, 0x3F)]], vec![Reads(0x10, 0x07), Reads(0x18, 0x00)]),
         example("BSTR, 1394", &[&[reset(0, 0xF7)]], vec![Reads(0x10, 0x00), Reads(0x18, 0x06)]),
@@ -113,7 +113,7 @@ fn letr_starts() -> impl Iterator<Item = Example> {
 /// All that RESET sets back, after a life in both bays. LETR starts at 1, and with bit 12 of the RESET at 0 (document 02,
 /// request 4).
 fn after_reset(name: &str, reset: u16, letr: u8) -> Example {
-    let life = [&[R][..], &w(0x40, 0x02), &w(0x14, 0xAF), &w(0x1C, 0xCF), &[pins(0x9D)], &ticks(10)].concat();
+    let life = [&[R][..], &w(0x40, 0x02), &w(0x14, 0xAF), &w(0x1C, 0xCF), &hold(0x9D, 5)].concat();
     let zeros = [0x0C, 0x14, 0x18, 0x1C].map(|address| Reads(address, 0));
     let mut expected = vec![Reads(0x10, 0x05), Reads(0x40, letr), Outputs(0)];
     expected.extend(zeros);
