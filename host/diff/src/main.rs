@@ -8,6 +8,7 @@
 //! Before them come the version, the paper's examples, each held against the paper's numbers, all packs and unpacks,
 //! every word as a list of its own, and the lists at the limit of a batch.
 
+mod buttons;
 mod compare;
 mod counts;
 mod presses;

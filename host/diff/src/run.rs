@@ -1,5 +1,6 @@
 //! What is asked, in order.
 
+use crate::buttons::Buttons;
 use crate::compare::{self, Mismatch, Question};
 use crate::counts::Counts;
 use crate::presses::Presses;
@@ -22,7 +23,7 @@ const FIRSTS: u16 = 1024;
 /// Second numbers that pack is asked for with every first.
 const SECONDS: [u8; 2] = [0x00, 0xBF];
 
-/// From so many generated words on, each kind of press and of pulse must have come.
+/// From so many generated words on, each kind of press, of button level and of pulse must have come.
 const TELLING: usize = 100_000;
 
 /// Up to here a list is short enough for the C controller to be asked all 256 addresses, each from the whole list.
@@ -117,6 +118,7 @@ impl Run {
     fn generated(&mut self, words: usize) -> Result<(), Failure> {
         let enough = self.counts.words + words;
         self.counts.held.presses = Presses::default();
+        self.counts.held.buttons = Buttons::default();
         self.counts.held.pulses = Pulses::default();
         while self.counts.words < enough {
             self.random = Random::new(self.seed, self.counts.lists as u64 + 1);
@@ -129,10 +131,11 @@ impl Run {
 
     fn rules_told_apart(&self, words: usize) -> Result<(), Failure> {
         let held = &self.counts.held;
-        if words < TELLING || (held.presses.all_came() && held.pulses.all_came()) {
+        let all_came = held.presses.all_came() && held.buttons.all_came() && held.pulses.all_came();
+        if words < TELLING || all_came {
             return Ok(());
         }
-        let came = format!("{}; {}", held.presses, held.pulses);
+        let came = format!("{}; {}; {}", held.presses, held.buttons, held.pulses);
         Err(Failure(format!("seed {}: the lists can't tell one rule from another: {}\n", self.seed, came)))
     }
 

@@ -1,5 +1,6 @@
 //! A list of words through one held state: begun, given the words by and by, with questions and refused calls between.
 
+use crate::buttons::Buttons;
 use crate::compare::Mismatch;
 use crate::presses::Presses;
 use crate::pulses::Pulses;
@@ -21,6 +22,7 @@ pub struct Counts {
     pub outputs: usize,
     pub refused: usize,
     pub presses: Presses,
+    pub buttons: Buttons,
     pub pulses: Pulses,
 }
 
@@ -32,6 +34,7 @@ impl std::ops::AddAssign for Counts {
         self.outputs += more.outputs;
         self.refused += more.refused;
         self.presses += more.presses;
+        self.buttons += more.buttons;
         self.pulses += more.pulses;
     }
 }
@@ -83,6 +86,7 @@ impl Walk {
         if word == TICK {
             self.counts.presses.count(&before, held.bytes());
         }
+        self.counts.buttons.count(word, &before, held.bytes());
         self.counts.pulses.count(word, &before, held.bytes());
         Ok(1)
     }

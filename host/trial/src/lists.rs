@@ -16,8 +16,12 @@ const STATUSES: [u8; 2] = [0x10, 0x18];
 const USEFUL_CONTROLS: [u8; 16] =
     [0x04, 0x08, 0x0C, 0x0E, 0x10, 0x18, 0x20, 0x28, 0x2C, 0x30, 0x40, 0x42, 0x81, 0xAD, 0x80, 0x00];
 
-/// Around the ten ticks of an input, the lengths of pulses and the 200 of the phase.
-const SHORT_RUNS: [usize; 8] = [1, 2, 5, 8, 9, 10, 11, 12];
+/// For how many ticks a level must last to be accepted.
+const BUTTON_TICKS: usize = 5;
+const PRESENCE_TICKS: usize = 10;
+
+/// Around these, the lengths of pulses and the 200 of the phase.
+const SHORT_RUNS: [usize; 10] = [1, 2, 4, 5, 6, 8, 9, 10, 11, 12];
 const LONG_RUNS: [usize; 9] = [13, 49, 50, 51, 99, 100, 101, 199, 200];
 
 /// The bit of each input of bay 0 in the levels; bay 1's are four places lower.
@@ -94,9 +98,9 @@ impl Writer<'_> {
             50..=57 => self.broken_command(),
             58 | 59 => self.babble(),
             60..=64 => self.flip_pins(),
-            65..=76 => self.move_device(),
-            77..=82 => self.press_button(),
-            83 | 84 => self.press_about_a_move(),
+            65..=74 => self.move_device(),
+            75..=80 => self.press_button(),
+            81..=84 => self.press_about_a_move(),
             85..=88 => self.ticks(&SHORT_RUNS),
             89 => self.ticks(&LONG_RUNS),
             90..=92 => self.noise(),
@@ -285,55 +289,71 @@ impl Writer<'_> {
         let with_button = if self.random.one_in(6) { BUTTON } else { 0 };
         let flipped = self.in_some_bay(presence | with_button);
         self.store_levels(self.levels ^ flipped);
-        self.settle();
+        self.settle(PRESENCE_TICKS);
     }
 
     /// The button goes down and up again, each time for about long enough.
     fn press_button(&mut self) {
         let button = self.in_some_bay(BUTTON);
-        self.store_levels(self.levels & !button);
-        self.settle();
+        self.hold_button(self.levels & !button);
         if !self.random.one_in(4) {
-            self.store_levels(self.levels | button);
-            self.settle();
+            self.hold_button(self.levels | button);
         }
     }
 
-    /// A device comes or goes, and the button goes down so that both are accepted in one tick, or the button in the
-    /// tick before or after.
+    /// The button's level changes and mostly settles; sometimes it goes back before that, for a moment.
+    fn hold_button(&mut self, levels: u8) {
+        let before = self.levels;
+        self.store_levels(levels);
+        if self.random.one_in(4) {
+            self.run_about(BUTTON_TICKS - 1);
+            self.store_levels(before);
+            self.ticks(&[0, 1, BUTTON_TICKS - 1]);
+            self.store_levels(levels);
+        }
+        self.settle(BUTTON_TICKS);
+    }
+
+    /// A device comes or goes, and the button goes down with it, or so much later that both are accepted in one tick, or
+    /// the button in the tick before or after.
     fn press_about_a_move(&mut self) {
         let bay = self.random.pick(&[0, 4]);
         let (button, either) = (BUTTON >> bay, BOTH >> bay);
         self.store_levels(self.levels | button);
-        self.run(10);
+        self.run(PRESENCE_TICKS);
         let moved = if self.levels & either == either {
             self.levels & !(self.random.pick(&PRESENCE) >> bay)
         } else {
             self.levels | either
         };
-        let first = self.random.pick(&[self.levels & !button, moved, moved & !button]);
-        self.store_levels(first);
-        self.run(1);
+        let later = PRESENCE_TICKS - BUTTON_TICKS;
+        self.store_levels(moved);
+        self.ticks(&[0, later - 1, later, later, later + 1]);
         self.store_levels(moved & !button);
-        self.run(10);
+        self.run(PRESENCE_TICKS);
     }
 
-    /// Ten ticks mostly, in one run or around something else.
-    fn settle(&mut self) {
+    /// As long as the level takes mostly, in one run or around something else, or a tick more or less.
+    fn settle(&mut self, ticks: usize) {
         match self.random.below(8) {
             0 => self.ticks(&SHORT_RUNS),
             1 => {
-                self.run(5);
+                self.run(ticks / 2);
                 self.flip_pins();
-                self.run(5);
+                self.run(ticks - ticks / 2);
             }
             2 => {
-                self.run(4);
+                self.run(ticks / 2 - 1);
                 self.write();
-                self.run(6);
+                self.run(ticks - ticks / 2 + 1);
             }
-            _ => self.run(10),
+            3 => self.run_about(ticks),
+            _ => self.run(ticks),
         }
+    }
+
+    fn run_about(&mut self, ticks: usize) {
+        self.ticks(&[ticks - 1, ticks, ticks + 1]);
     }
 
     fn ticks(&mut self, lengths: &[usize]) {
