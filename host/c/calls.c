@@ -56,16 +56,16 @@ static int untouched(void) { return only_changed(&state_buffer, 0) && only_chang
 /* ---- a story with everything in it: refused words, both forms of a command, pins and ticks inside one ---- */
 
 static const uint16_t STORY[] = {
-    0xA000,                                                                 /* a TICK before any RESET: 3 */
-    0xC5BF,                                                                 /* RESET, straps 5, USB device in bay 0 */
-    0x0001,                                                                 /* a stray bit: 2 */
-    0x0000, 0x4092, 0x4014, 0x40AD, 0x2000,                                 /* BCER of bay 0 */
-    0x0000, 0x4092, 0x4010, 0x809F, 0xA000, 0xA000, 0x4004, 0x2000,         /* BSTR, with a press inside */
-    0xFFFF, 0xA000, 0xA000, 0xA000, 0xA000, 0xA000, 0xA000, 0xA000, 0xA000, /* .. which is accepted at the last */
-    0x0000, 0x4092, 0x400C, 0x4012, 0x2000,                                 /* DBCCR */
-    0x0000, 0x4092, 0x4040, 0x4002, 0x2000,                                 /* LETR */
-    0x0000, 0x4092, 0x4010, 0x0000, 0x4093, 0x6001,                         /* a read */
-    0x80DF, 0xA000, 0x0000, 0x4092, 0x4014, 0x4081,                         /* a write that is still open */
+    0xA000,                                                         /* a TICK before any RESET: 3 */
+    0xC5BF,                                                         /* RESET, straps 5, USB device in bay 0 */
+    0x0001,                                                         /* a stray bit: 2 */
+    0x0000, 0x4092, 0x4014, 0x40AD, 0x2000,                         /* BCER of bay 0 */
+    0x0000, 0x4092, 0x4010, 0x809F, 0xA000, 0xA000, 0x4004, 0x2000, /* BSTR, with a press inside */
+    0xFFFF, 0xA000, 0xA000, 0xA000,                                 /* .. which is accepted at the last */
+    0x0000, 0x4092, 0x400C, 0x4012, 0x2000,                         /* DBCCR */
+    0x0000, 0x4092, 0x4040, 0x4002, 0x2000,                         /* LETR */
+    0x0000, 0x4092, 0x4010, 0x0000, 0x4093, 0x6001,                 /* a read */
+    0x80DF, 0xA000, 0x0000, 0x4092, 0x4014, 0x4081,                 /* a write that is still open */
 };
 
 static void test_version(void) {
@@ -163,9 +163,19 @@ static void refuse_byte(size_t at, uint8_t value) {
     state[at] = before;
 }
 
+/* One byte of an image changed so that it is the image of another fit state, which is asked and left as it is. */
+static void take_byte(size_t at, uint8_t value) {
+    uint8_t before = state[at];
+    state[at] = value;
+    remember(&state_buffer);
+    CHECK(dock_refusal(dock_outputs(state, DOCK_STATE_BYTES)) == DOCK_ACCEPTED);
+    CHECK(untouched());
+    state[at] = before;
+}
+
 /* Byte by byte, the largest value that the header calls fit; those with the progress are the test's below. */
 static uint8_t most_at(size_t at) {
-    static const uint8_t in_bay[6] = {9, 9, 9, 4, 4, 200};
+    static const uint8_t in_bay[6] = {9, 9, 4, 4, 4, 200};
     if (at < DOCK_AT_STRAPS) {
         return 1;
     }
@@ -185,16 +195,43 @@ static void test_damage(void) {
         }
     }
     for (size_t at = DOCK_AT_STARTED; at < DOCK_AT_PROGRESS; at++) {
-        uint8_t before = state[at];
-        state[at] = most_at(at);
-        CHECK(dock_refusal(dock_outputs(state, DOCK_STATE_BYTES)) == DOCK_ACCEPTED);
-        state[at] = before;
+        take_byte(at, most_at(at));
         for (unsigned value = most_at(at) + 1u; value < 256; value++) {
             refuse_byte(at, (uint8_t)value);
         }
     }
     for (unsigned progress = 7; progress < 256; progress++) {
         refuse_byte(DOCK_AT_PROGRESS, (uint8_t)progress);
+    }
+}
+
+/* A saved count of the button's is fit up to 4, and then a tick is left; those of presence are fit up to 9. */
+static void test_counts(void) {
+    for (int bay = 0; bay < 2; bay++) {
+        size_t counts = DOCK_AT_BAY_NUMBERS(bay) + DOCK_BAY_COUNTS;
+        const uint8_t *status = state + DOCK_AT_BAY_FLAGS(bay) + DOCK_BAY_REMREQ_STS;
+        begin();
+        CHECK(dock_step(state, DOCK_STATE_BYTES, 0xC0BB) == 0);
+        CHECK(dock_step(state, DOCK_STATE_BYTES, 0x8099) == 0);
+        refuse_byte(counts, 10);
+        refuse_byte(counts + 1, 10);
+        refuse_byte(counts + 2, 5);
+        take_byte(counts, 9);
+        take_byte(counts + 1, 9);
+        take_byte(counts + 2, 4);
+        state[counts + 2] = 3;
+        CHECK(dock_step(state, DOCK_STATE_BYTES, 0xA000) == 0 && state[counts + 2] == 4 && *status == 0);
+        CHECK(dock_step(state, DOCK_STATE_BYTES, 0xA000) == 0 && state[counts + 2] == 0 && *status == 1);
+    }
+}
+
+/* What a library before 3.1 saved: the first byte is 1, and the button's count may be above 4. */
+static void test_older_layout(void) {
+    begin();
+    CHECK(dock_step(state, DOCK_STATE_BYTES, 0xC0BF) == 0);
+    for (unsigned count = 0; count <= 9; count++) {
+        state[DOCK_AT_BAY_NUMBERS(0) + DOCK_BAY_COUNTS + 2] = (uint8_t)count;
+        refuse_byte(DOCK_AT_VERSION, 1);
     }
 }
 
@@ -205,9 +242,7 @@ static void test_progress(void) {
         state[DOCK_AT_PROGRESS] = (uint8_t)progress;
         for (size_t at = DOCK_AT_FIRST; at <= DOCK_AT_SECOND; at++) {
             if (at == DOCK_AT_FIRST ? progress >= 3 : progress == 4) {
-                state[at] = 0xFF;
-                CHECK(dock_refusal(dock_outputs(state, DOCK_STATE_BYTES)) == DOCK_ACCEPTED);
-                state[at] = 0;
+                take_byte(at, 0xFF);
             } else {
                 refuse_byte(at, 1);
                 refuse_byte(at, 0xFF);
@@ -252,7 +287,7 @@ static void test_fields(void) {
     CHECK(dock_batch(state, DOCK_STATE_BYTES, STORY, COUNT(STORY), records, ROOM) == COUNT(STORY));
     CHECK(state[DOCK_AT_STARTED] == 1 && state[DOCK_AT_DBCCR_WRITTEN] == 1 && state[DOCK_AT_SECLOCK] == 1);
     CHECK(state[DOCK_AT_STRAPS] == 5 && state[DOCK_AT_BAY_COUNT] == 2 && state[DOCK_AT_LOCK_TIME] == 2);
-    CHECK(state[DOCK_AT_PHASE] == 11);
+    CHECK(state[DOCK_AT_PHASE] == 6);
     CHECK(memcmp(flags, flags_0, sizeof flags_0) == 0);
     CHECK(flags[DOCK_BAY_LEVELS + 1] == 1 && flags[DOCK_BAY_ACCEPTED + 1] == 0 && flags[DOCK_BAY_N_SL] == 1);
     CHECK(flags[DOCK_BAY_REMREQ_STS] == 1 && flags[DOCK_BAY_DEVSTSCHG] == 0 && flags[DOCK_BAY_LOCK_CTL] == 1);
@@ -354,6 +389,8 @@ int main(void) {
     test_empty_lists();
     test_order();
     test_damage();
+    test_counts();
+    test_older_layout();
     test_progress();
     test_story();
     test_fields();

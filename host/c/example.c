@@ -19,7 +19,7 @@ enum {
     CLEAR_STATUS_CHANGED = 0x04,
     USB_IN_BAY_0 = 0xBF,
     BUTTON_DOWN = 0x9F,
-    SETTLING_TICKS = 10
+    BUTTON_TICKS = 5
 };
 
 static uint8_t state[DOCK_STATE_BYTES];
@@ -114,7 +114,7 @@ static void byte(uint8_t value) { event(DOCK_BYTE, value, 0); }
 
 static void press_button(void) {
     event(DOCK_PINS, BUTTON_DOWN, 0);
-    for (int tick = 0; tick < SETTLING_TICKS; tick++) {
+    for (int tick = 0; tick < BUTTON_TICKS; tick++) {
         event(DOCK_TICK, 0, 0);
     }
 }

@@ -1,4 +1,4 @@
-/* The proved controller of a two-bay cartridge dock, version 3.0, for C99 or C++11 and newer.
+/* The proved controller of a two-bay cartridge dock, version 3.1, for C99 or C++11 and newer.
  *
  * A program holds the controller's state as DOCK_STATE_BYTES bytes and gives it one event at a time:
  *
@@ -43,6 +43,10 @@ extern "C" {
  * rises where a program that was built on an older header would misread or misuse a call, the second where it would
  * not.
  *
+ * Since 3.1 a level of the removal button is accepted after 5 ticks, pressed and released, and not after 10; presence
+ * still takes 10. No call has changed. A saved count of the button's is now at most 4, so images have DOCK_LAYOUT 2: one
+ * of layout 1, which an older library saved, is refused with 1, and a program that finds one begins anew.
+ *
  * Since 3.0 a RESET starts LETR at 1, a pulse of 50 ticks, and not at 0, one of 12. A dock that was built on the short
  * pulse says so in each RESET: DOCK_SHORT_PULSE beside the straps, bit 12 of the word, which is refused no more. For it
  * dock_pack's first number has 16 bits, and dock_unpack tells it in bit 24, above the refusal. A program that was built
@@ -54,7 +58,7 @@ extern "C" {
  *
  * Before version 2, dock_reading and dock_outputs took words where they take a state now, and dock_unpack had a layout
  * of its own. A program that was built on such a header must be built again. */
-#define DOCK_VERSION 0x0300u
+#define DOCK_VERSION 0x0301u
 
 /* Bits of words and answers, numbers of events, replies and refusals that this header does not name are 0 or not given
  * in this version. A later one may use them, and then has a higher first number. A program that begins by asking
@@ -193,7 +197,7 @@ static inline uint8_t dock_second(uint32_t unpacked) { return (uint8_t)(unpacked
  *
  * DOCK_LAYOUT rises whenever a byte, a range or the length changes. An image of another layout is refused with 1: it is
  * not carried over, and a program that finds one begins anew. */
-#define DOCK_LAYOUT 1u
+#define DOCK_LAYOUT 2u
 
 #define DOCK_AT_VERSION 0u /* DOCK_LAYOUT */
 /* Flags: 0 or 1. */
@@ -232,7 +236,7 @@ static inline uint8_t dock_second(uint32_t unpacked) { return (uint8_t)(unpacked
 #define DOCK_BAY_PWR_CTL 13u
 
 /* From DOCK_AT_BAY_NUMBERS on. */
-#define DOCK_BAY_COUNTS 0u  /* 0-9 each: n1394, nUSB, nREMREQ */
+#define DOCK_BAY_COUNTS 0u  /* 0-9 of n1394, 0-9 of nUSB, 0-4 of nREMREQ */
 #define DOCK_BAY_STATE 3u   /* 0-4 */
 #define DOCK_BAY_REQUEST 4u /* 0-4 */
 #define DOCK_BAY_PULSE 5u   /* 0-200 */

@@ -11,8 +11,8 @@ use crate::walk::{self, Way};
 use model::{Controller, MOST_WORDS};
 use trial::{lists, Random, Room};
 
-/// What dock_version answers: 3.0, accepted.
-const VERSION: u32 = 0x0300;
+/// What dock_version answers: 3.1, accepted.
+const VERSION: u32 = 0x0301;
 
 /// Kinds that pack is asked for: the eight and two that do not exist.
 const KINDS: u8 = 10;

@@ -15,7 +15,7 @@ const CLEAR_STATUS_CHANGED: u8 = 0x04;
 
 const USB_IN_BAY_0: u8 = 0xBF;
 const BUTTON_DOWN: u8 = 0x9F;
-const SETTLING_TICKS: usize = 10;
+const BUTTON_TICKS: usize = 5;
 
 fn tell(dock: &mut Dock, event: Event) -> Result<(), Error> {
     let word = u16::try_from(event)?;
@@ -34,7 +34,7 @@ fn interrupted_write(dock: &mut Dock) -> Result<(), Error> {
     let (until_register, from_data) = write.split_at(3);
     tell_all(dock, until_register)?;
     tell(dock, Event::Pins(BUTTON_DOWN))?;
-    tell_all(dock, &[Event::Tick; SETTLING_TICKS])?;
+    tell_all(dock, &[Event::Tick; BUTTON_TICKS])?;
     tell_all(dock, from_data)
 }
 

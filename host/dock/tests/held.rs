@@ -17,6 +17,13 @@ fn started() -> Dock {
     dock
 }
 
+/// The dock's bytes with another one in this place.
+fn with(dock: &Dock, place: usize, byte: u8) -> [u8; STATE_BYTES] {
+    let mut bytes = *dock.bytes();
+    bytes[place] = byte;
+    bytes
+}
+
 #[test]
 fn a_refused_word_leaves_the_image() {
     let mut dock = Dock::new().unwrap();
@@ -69,10 +76,19 @@ fn only_images_of_fit_states_come_back() {
     for length in 0..STATE_BYTES {
         assert_eq!(Dock::from_bytes(&dock.bytes()[..length]), refused(Refusal::UnfitState));
     }
-    for (place, byte) in [(0, 0), (0, 2), (1, 2), (35, 200), (48, 7), (49, 1)] {
-        let mut damaged = *dock.bytes();
-        damaged[place] = byte;
-        assert_eq!(Dock::from_bytes(&damaged), refused(Refusal::UnfitState));
+    // Layout 1 is what a library before 3.1 saved.
+    for (place, byte) in [(0, 0), (0, 1), (0, 3), (1, 2), (35, 200), (48, 7), (49, 1)] {
+        assert_eq!(Dock::from_bytes(&with(&dock, place, byte)), refused(Refusal::UnfitState));
+    }
+}
+
+#[test]
+fn a_saved_count_is_below_its_inputs_ticks() {
+    let dock = started();
+    let most = [9, 9, 4].into_iter().zip(36..).chain([9, 9, 4].into_iter().zip(42..));
+    for (most, place) in most {
+        assert!(Dock::from_bytes(&with(&dock, place, most)).is_ok());
+        assert_eq!(Dock::from_bytes(&with(&dock, place, most + 1)), refused(Refusal::UnfitState));
     }
 }
 
