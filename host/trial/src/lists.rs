@@ -317,20 +317,36 @@ impl Writer<'_> {
     /// A device comes or goes, and the button goes down with it, or so much later that both are accepted in one tick, or
     /// the button in the tick before or after.
     fn press_about_a_move(&mut self) {
-        let bay = self.random.pick(&[0, 4]);
-        let (button, either) = (BUTTON >> bay, BOTH >> bay);
+        let bay = self.random.below(2);
+        let button = BUTTON >> (4 * bay);
         self.store_levels(self.levels | button);
         self.run(PRESENCE_TICKS);
-        let moved = if self.levels & either == either {
-            self.levels & !(self.random.pick(&PRESENCE) >> bay)
-        } else {
-            self.levels | either
-        };
+        if self.random.one_in(2) {
+            self.listen(bay);
+        }
+        let moved = self.moved_device(bay);
         let later = PRESENCE_TICKS - BUTTON_TICKS;
         self.store_levels(moved);
         self.ticks(&[0, later - 1, later, later, later + 1]);
         self.store_levels(moved & !button);
         self.run(PRESENCE_TICKS);
+    }
+
+    /// The host asks to be told of devices and of the button, and clears the last press.
+    fn listen(&mut self, bay: usize) {
+        let control = self.random.pick(&[0x0C, 0x1C, 0x2C]);
+        self.write_value(CONTROLS[bay], control);
+        self.write_value(STATUSES[bay], 0x08);
+    }
+
+    /// The levels with a device where there is none, or without the one that is there.
+    fn moved_device(&mut self, bay: usize) -> u8 {
+        let either = BOTH >> (4 * bay);
+        if self.levels & either == either {
+            self.levels & !(self.random.pick(&PRESENCE) >> (4 * bay))
+        } else {
+            self.levels | either
+        }
     }
 
     /// As long as the level takes mostly, in one run or around something else, or a tick more or less.
