@@ -44,8 +44,8 @@ extern "C" {
  * not.
  *
  * Since 3.1 a level of the removal button is accepted after 5 ticks, pressed and released, and not after 10; presence
- * still takes 10. No call has changed. A saved count of the button's is now at most 4, so images have DOCK_LAYOUT 2: one
- * of layout 1, which an older library saved, is refused with 1, and a program that finds one begins anew.
+ * still takes 10. No call has changed. A saved count of the button's is now at most 4, so images have DOCK_LAYOUT 2:
+ * one of layout 1, which an older library saved, is refused with 1, and a program that finds one begins anew.
  *
  * Since 3.0 a RESET starts LETR at 1, a pulse of 50 ticks, and not at 0, one of 12. A dock that was built on the short
  * pulse says so in each RESET: DOCK_SHORT_PULSE beside the straps, bit 12 of the word, which is refused no more. For it

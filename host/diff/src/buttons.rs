@@ -1,11 +1,11 @@
 //! Levels of the removal button that rules on its five ticks differ on. The lists must come to each of these:
 //!
-//! - A level accepted in its fifth tick. A rule of four ticks has it before, one of six or of ten, or one that asks for a
-//!   tick more than it says, has it later. Down and up count apart, since a rule may be quick with one of them only.
+//! - A level accepted in its fifth tick. A rule of four ticks has it before, one of six or of ten, or one that asks for
+//!   a tick more than it says, has it later. Down and up count apart, since a rule may be quick with one of them only.
 //! - A level that goes back after four ticks. A rule of four has accepted it, and a count that no sample clears stays.
-//! - A first press accepted while a presence change that began no later still counts, by which a device comes or goes. A
-//!   rule with one length for all inputs, five or ten, has the device come or go before the press or with it, and then
-//!   sets REMREQ_STS where the paper doesn't, or doesn't where it does.
+//! - A first press accepted while a presence change that began no later still counts, by which a device comes or goes.
+//!   A rule with one length for all inputs, five or ten, has the device come or go before the press or with it, and
+//!   then sets REMREQ_STS where the paper doesn't, or doesn't where it does.
 
 use std::fmt;
 

@@ -1,5 +1,5 @@
-//! "Bay moves": the removal button. A press counts only with a device in the bay (document 02, request 1), and a level of
-//! the button is accepted after 5 ticks where one of presence takes 10 (request 5).
+//! "Bay moves": the removal button. A press counts only with a device in the bay (document 02, request 1), and a level
+//! of the button is accepted after 5 ticks where one of presence takes 10 (request 5).
 
 use crate::words::{pins, reset, TICK};
 use crate::Expected::{Outputs, Reads};
@@ -133,8 +133,8 @@ fn presses_and_presence() -> Vec<Example> {
     ]
 }
 
-/// Requests 1 and 5: a press that begins with a removal or some ticks after it, at each tick where something is accepted
-/// and the one before. What was pressed in time stays set in the empty bay.
+/// Requests 1 and 5: a press that begins with a removal or some ticks after it, at each tick where something is
+/// accepted and the one before. What was pressed in time stays set in the empty bay.
 fn removals() -> impl Iterator<Item = Example> {
     let together = [(0, 4, 0x21), (0, 5, 0x39), (0, 9, 0x39), (0, 10, 0x0C)];
     let before = [(4, 8, 0x21), (4, 9, 0x39), (4, 10, 0x0C)];
