@@ -6,7 +6,7 @@ use mathlib.Core.Path.{_≡_, refl, _∙_}
 use mathlib.Core.Bool.{Bool, true}
 use mathlib.Core.List.{List, [], _∷_}
 use Rattle.bits.specs.Bits.{bit}
-use Rattle.bay.specs.Record.{NREMREQ, ticksFor, level, acceptedLevel, emptyBay, resetBay}
+use Rattle.bay.specs.Record.{ticksFor, level, acceptedLevel, emptyBay, resetBay}
 use Rattle.bay.specs.Debounce.{sampledBay}
 use Rattle.bay.specs.Debounced.{Tick, atRest, sees, seesAll, Debounced}
 use Rattle.bay.specs.Moves.{movedBay, tickedBay}
@@ -53,8 +53,8 @@ presence-debounced b zero l = bay-debounced b 0 (omega arith)
 presence-debounced b (suc zero) l = bay-debounced b 1 (omega arith)
 presence-debounced b (suc (suc i)) l = absurd (omega arith)
 
-pub button-debounced : (b : Bay) → Debounced 5 (seen NREMREQ) (λ xs. line (happensAll xs b) NREMREQ)
-button-debounced b = bay-debounced b NREMREQ (omega arith)
+pub button-debounced : (b : Bay) → Debounced 5 (seen 2) (λ xs. line (happensAll xs b) 2)
+button-debounced b = bay-debounced b 2 (omega arith)
 
 -- ---- where it begins
 

@@ -1,17 +1,17 @@
 -- A bay moves exactly as the two tables say. The state after a TICK or a write is a choice by tests, so that each entry is a
 -- tautology over these tests, at each state from and to and at each request. Assumes nothing.
-use Prim.Native.Nat.{ℕ, _+_, _/_, _%_, _<_}
+use Prim.Native.Nat.{ℕ, _/_, _%_, _<_}
 use native.Mathlib.Omega.{arith}
 use mathlib.Core.Path.{_≡_, refl, sym, _∙_}
 use mathlib.Core.Logic.{_↔_}
-use mathlib.Core.Bool.{Bool, true, not, cond, _&&_, _||_, Bool·beq}
+use mathlib.Core.Bool.{Bool, true, false, not, cond, _&&_, _||_, Bool·beq}
 use lib.Dec.{eqb, ltb, leb}
 use borrow.Author.Tests.{eqb-true, eq-eqb}
-use Rattle.bits.specs.Bits.{bit, put}
+use Rattle.bits.specs.Bits.{bit}
 use Rattle.bay.specs.Record.{NREMREQ, acceptedLevel, present}
 use Rattle.bay.specs.Moves.{inUse, stateAfter, movedBay, tickedBay}
 use Rattle.bay.specs.Registers.{controlOf, asks, stateWritten, controlledBay}
-use Rattle.bay.specs.Table.{Table, entry, gone, come, press, calm, tickRows, tickTable, writeRows, writeTable}
+use Rattle.bay.specs.Table.{Table, entry, gone, come, pressOver, press, tickRows, tickTable, writeRows, writeTable}
 use Rattle.bay.specs.declared.Bay.{Bay}
 use Rattle.bay.proofs.Taut.{All, Below, Fun, below, taut, same}
 use Rattle.bay.proofs.Ticks.{present-after, heeded-after}
@@ -38,35 +38,38 @@ tableBy p q en l m req sts =
 abbrev tickEntry : ℕ → ℕ → Fun 7
 tickEntry from to p q en l m req sts = Bool·beq (eqb (stateBy from p q en l m req sts) to) (entry (tableBy p q en l m req sts) from to)
 
--- A TICK makes at most one move: of the four, gone, come, press and none of these, exactly one is so.
-pub one-move : (b : Bay) → put 0 (gone b) + put 0 (come b) + put 0 (press b) + put 0 (calm b) ≡ 1
-one-move b =
-    eqb-true _ _
-    (taut 7
-    (λ p q en l m req sts.
-    let gone = p && not q in
-    let come = not p && q && en in
-    let press = not gone && not come && (l && not m && q) && req && not sts in
-    eqb (put 0 gone + put 0 come + put 0 press + put 0 (not gone && not come && not press)) 1)
-    refl (present b) (present (tickedBay b)) (b .control .«devstschg_en») (acceptedLevel b NREMREQ) (acceptedLevel (tickedBay b) NREMREQ)
-    (b .control .«remreq_en») (b .«remreq_sts»))
+-- That is the state after it, in every bay.
+tick-state :
+    (b : Bay)
+    → tickedBay b .state
+    ≡ stateBy (b .state) (present b) (present (tickedBay b)) (b .control .«devstschg_en») (acceptedLevel b NREMREQ) (acceptedLevel (tickedBay b) NREMREQ) (b .control .«remreq_en») (b .«remreq_sts»)
+unfolding tickedBay movedBay stateAfter inUse
+tick-state b = rw (← (heeded-after b), present-after b)
+
+-- A TICK makes at most one move, out of the state before it, in every bay: Empty where the device is gone, else Inserted where one has
+-- come, else Removal Requested where a press finds the bay in use; and else none.
+pub one-move : (b : Bay) → tickedBay b .state ≡ cond (gone b) 0 (cond (come b) 1 (cond (press b && (eqb (b .state) 1 || eqb (b .state) 2)) 3 (b .state)))
+one-move b = tick-state b ∙ go (gone b) (come b) (pressOver b (tickedBay b)) (b .control .«remreq_en») (not (b .«remreq_sts»)) (eqb (b .state) 1 || eqb (b .state) 2)
+  where
+    go :
+        (g c o req clear used : Bool)
+        → cond g 0 (cond c 1 (cond (o && req && clear && used) 3 (b .state)))
+        ≡ cond g 0 (cond c 1 (cond (not g && not c && o && req && clear && used) 3 (b .state)))
+    go true c o req clear used = refl
+    go false true o req clear used = refl
+    go false false o req clear used = refl
 
 -- For every bay state from and to: a TICK brings a bay from the one to the other exactly when the table says.
 pub tick-table : (b : Bay) → b .state < 5 → (to : ℕ) → to < 5 → (tickedBay b .state ≡ to) ↔ (entry (tickTable b) (b .state) to ≡ true)
-unfolding tickTable tickedBay movedBay stateAfter inUse
+unfolding tickTable
 tick-table b h to k =
     exactly _ to _
-    (rw moved
+    (rw (tick-state b)
     (same _ _
     (taut 7 (tickEntry (b .state) to)
     (below 5 (λ to. All 7 (tickEntry (b .state) to)) (below 5 (λ from. Below 5 (λ to. All 7 (tickEntry from to))) refl (b .state) h) to k)
     (present b) (present (tickedBay b)) (b .control .«devstschg_en») (acceptedLevel b NREMREQ) (acceptedLevel (tickedBay b) NREMREQ)
     (b .control .«remreq_en») (b .«remreq_sts»))))
-  where
-    moved :
-        tickedBay b .state
-        ≡ stateBy (b .state) (present b) (present (tickedBay b)) (b .control .«devstschg_en») (acceptedLevel b NREMREQ) (acceptedLevel (tickedBay b) NREMREQ) (b .control .«remreq_en») (b .«remreq_sts»)
-    moved = rw (← (heeded-after b), present-after b)
 
 -- ---- a write of BCER
 
