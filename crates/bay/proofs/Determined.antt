@@ -5,6 +5,7 @@ use mathlib.Core.Path.{_≡_, sym, _∙_}
 use mathlib.Core.Bool.{Bool}
 use Rattle.bay.specs.declared.Bay.{Bay}
 use Rattle.bay.specs.declared.Control.{Control}
+use Rattle.bay.specs.declared.Setting.{Setting}
 use Rattle.bay.specs.declared.Input.{Input}
 use Rattle.bay.proofs.Bay.empty.Reads as empty-reads
 use Rattle.bay.proofs.Bay.reset.Reads as reset-reads
@@ -41,8 +42,8 @@ present-determined b r s p q = p ∙ sym q
 pub in-use-determined : (b : Bay) (r s : Bool) → in-use-reads.Post tt (b, tt) r (b, tt) → in-use-reads.Post tt (b, tt) s (b, tt) → r ≡ s
 in-use-determined b r s p q = p ∙ sym q
 
-pub ticked-determined : (b : Bay) (r s : Bay) → ticked-reads.Post tt (b, tt) r (b, tt) → ticked-reads.Post tt (b, tt) s (b, tt) → r ≡ s
-ticked-determined b r s p q = p ∙ sym q
+pub ticked-determined : (b : Bay) (g : Setting) (r s : Bay) → ticked-reads.Post tt (b, (g, tt)) r (b, (g, tt)) → ticked-reads.Post tt (b, (g, tt)) s (b, (g, tt)) → r ≡ s
+ticked-determined b g r s p q = p ∙ sym q
 
 pub bstr-determined : (b : Bay) (r s : ℕ) → bstr-reads.Post tt (b, tt) r (b, tt) → bstr-reads.Post tt (b, tt) s (b, tt) → r ≡ s
 bstr-determined b r s p q = p ∙ sym q
@@ -53,8 +54,8 @@ bcer-determined b r s p q = p ∙ sym q
 pub with-bstr-determined : (b : Bay) (v : ℕ) (r s : Bay) → with-bstr-reads.Post tt (b, (v, tt)) r (b, (v, tt)) → with-bstr-reads.Post tt (b, (v, tt)) s (b, (v, tt)) → r ≡ s
 with-bstr-determined b v r s p q = p ∙ sym q
 
-pub controlled-determined : (b : Bay) (c : Control) (mode : Bool) (ticks : ℕ) (r s : Bay) → controlled-reads.Post tt (b, (c, (mode, (ticks, tt)))) r (b, (c, (mode, (ticks, tt)))) → controlled-reads.Post tt (b, (c, (mode, (ticks, tt)))) s (b, (c, (mode, (ticks, tt)))) → r ≡ s
-controlled-determined b c mode ticks r s p q = p ∙ sym q
+pub controlled-determined : (b : Bay) (c : Control) (g : Setting) (r s : Bay) → controlled-reads.Post tt (b, (c, (g, tt))) r (b, (c, (g, tt))) → controlled-reads.Post tt (b, (c, (g, tt))) s (b, (c, (g, tt))) → r ≡ s
+controlled-determined b c g r s p q = p ∙ sym q
 
 pub control-of-determined : (v : ℕ) (r s : Control) → control-of-reads.Post tt (v, tt) r (v, tt) → control-of-reads.Post tt (v, tt) s (v, tt) → r ≡ s
 control-of-determined v r s p q = p ∙ sym q

@@ -14,21 +14,22 @@ use Rattle.bay.specs.Registers.{bstrWritten, controlledBay}
 use Rattle.bay.specs.Sound.{Sound}
 use Rattle.bay.specs.Happens.{Happens, tick, pins, bstr, bcer, happens, happensAll, line, seenOf, seen}
 use Rattle.bay.specs.declared.Bay.{Bay}
+use Rattle.bay.specs.declared.Setting.{Setting}
 use Rattle.bay.proofs.Debounced.{sees-more, debounced-as}
 
 -- What an input sees of what happens is what becomes of it.
 pub input-sees : (x : Happens) (b : Bay) (i : ℕ) → i < 3 → line (happens x b) i ≡ seesAll (ticksFor i) (seenOf i x) (line b i)
 unfolding happens seesAll sees tickedBay movedBay sampledBay bstrWritten controlledBay
-input-sees tick b zero l = refl
-input-sees tick b (suc zero) l = refl
-input-sees tick b (suc (suc zero)) l = refl
-input-sees tick b (suc (suc (suc i))) l = absurd (omega arith)
+input-sees (tick s) b zero l = refl
+input-sees (tick s) b (suc zero) l = refl
+input-sees (tick s) b (suc (suc zero)) l = refl
+input-sees (tick s) b (suc (suc (suc i))) l = absurd (omega arith)
 input-sees (pins levels) b zero l = refl
 input-sees (pins levels) b (suc zero) l = refl
 input-sees (pins levels) b (suc (suc zero)) l = refl
 input-sees (pins levels) b (suc (suc (suc i))) l = absurd (omega arith)
 input-sees (bstr v) b i l = refl
-input-sees (bcer c mode ticks) b i l = refl
+input-sees (bcer c s) b i l = refl
 
 follows : (xs : List Happens) (b : Bay) (i : ℕ) → i < 3 → line (happensAll xs b) i ≡ seesAll (ticksFor i) (seen i xs) (line b i)
 unfolding happensAll seesAll
@@ -78,6 +79,6 @@ pub resting : (b : Bay) (i : ℕ) → Sound b → level b i ≡ acceptedLevel b 
 resting b i s e = rw (e, s .still i e)
 
 -- A TICK makes of it what it makes of an input.
-pub ticked-line : (b : Bay) (i : ℕ) → i < 3 → line (tickedBay b) i ≡ sees (ticksFor i) Tick (line b i)
+pub ticked-line : (s : Setting) (b : Bay) (i : ℕ) → i < 3 → line (tickedBay s b) i ≡ sees (ticksFor i) Tick (line b i)
 unfolding happens seesAll
-ticked-line b i l = input-sees tick b i l
+ticked-line s b i l = input-sees (tick s) b i l

@@ -13,3 +13,4 @@ pub mod Underway
 pub mod Order
 pub mod Together
 pub mod Determined
+pub mod Waits

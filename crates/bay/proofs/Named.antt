@@ -15,6 +15,7 @@ use Rattle.bay.specs.Moves.{movedBay, tickedBay}
 use Rattle.bay.specs.Registers.{bstrOf, bcerOf, bstrWritten, controlOf, pulseWritten, controlledBay}
 use Rattle.bay.specs.Outputs.{lockPin, green, yellow, bayOutputs, interrupts}
 use Rattle.bay.specs.declared.Bay.{Bay}
+use Rattle.bay.specs.declared.Setting.{Setting}
 use Rattle.bay.proofs.Laws.{Sensed}
 use Rattle.bay.proofs.Taut.{below-taut, taut, same}
 
@@ -84,9 +85,9 @@ pub record Stores (v : ℕ) (b after : Bay) : Type 0 where
   pub pwr-ctl : after .control .«pwr_ctl» ≡ (bit 0 v && bit 7 v && present b)
   pub flags-kept : (after .«remreq_sts» ≡ b .«remreq_sts») × (after .devstschg ≡ b .devstschg)
 
-pub bcer-stores : (v : ℕ) (mode : Bool) (ticks : ℕ) (b : Bay) → Stores v b (controlledBay (controlOf v) mode ticks b)
+pub bcer-stores : (v : ℕ) (s : Setting) (b : Bay) → Stores v b (controlledBay (controlOf v) s b)
 unfolding controlledBay controlOf
-bcer-stores v mode ticks b =
+bcer-stores v s b =
     record { lock-ctl = refl; remreq-en = refl; devstschg-en = refl; remevtwak-en = refl; pwr-ctl = refl; flags-kept = (refl, refl) }
 
 -- BSTR: writing 1 to bit 3 or 2 clears it, writing 0 keeps it, and nothing else is altered.
@@ -98,6 +99,7 @@ pub record Clears (v : ℕ) (b after : Bay) : Type 0 where
   pub state-kept : after .state ≡ b .state
   pub control-kept : after .control ≡ b .control
   pub pulse-kept : after .pulse ≡ b .pulse
+  pub wait-kept : after .wait ≡ b .wait
   pub inputs-kept : (after .levels ≡ b .levels) × (after .accepted ≡ b .accepted) × (after .counts ≡ b .counts) × (after .«n_sl» ≡ b .«n_sl»)
 
 pub bstr-clears : (v : ℕ) (b : Bay) → Clears v b (bstrWritten v b)
@@ -111,21 +113,22 @@ bstr-clears v b =
       state-kept = refl;
       control-kept = refl;
       pulse-kept = refl;
+      wait-kept = refl;
       inputs-kept = (refl, refl, refl, refl);
     }
 
 -- ---- the pulse
 
 -- It is started by LOCK_CTL written from 1 to 0, in LOCK_MODE 1 only, with the ticks given, and by nothing else that is written.
-pub record Pulses (v : ℕ) (mode : Bool) (ticks : ℕ) (b after : Bay) : Type 0 where
-  pub begins : mode ≡ true → b .control .«lock_ctl» ≡ true → bit 7 v ≡ false → after .pulse ≡ ticks
-  pub in-mode-0 : mode ≡ false → after .pulse ≡ b .pulse
+pub record Pulses (v : ℕ) (s : Setting) (b after : Bay) : Type 0 where
+  pub begins : s .«lock_mode» ≡ true → b .control .«lock_ctl» ≡ true → bit 7 v ≡ false → after .pulse ≡ s .«pulse_ticks»
+  pub in-mode-0 : s .«lock_mode» ≡ false → after .pulse ≡ b .pulse
   pub unlocked : b .control .«lock_ctl» ≡ false → after .pulse ≡ b .pulse
   pub locking : bit 7 v ≡ true → after .pulse ≡ b .pulse
 
-pub bcer-pulses : (v : ℕ) (mode : Bool) (ticks : ℕ) (b : Bay) → Pulses v mode ticks b (controlledBay (controlOf v) mode ticks b)
+pub bcer-pulses : (v : ℕ) (s : Setting) (b : Bay) → Pulses v s b (controlledBay (controlOf v) s b)
 unfolding controlledBay controlOf pulseWritten
-bcer-pulses v mode ticks b =
+bcer-pulses v s b =
     record {
       begins = λ m l h. rw (m, l, h);
       in-mode-0 = λ m. rw m;
@@ -134,9 +137,9 @@ bcer-pulses v mode ticks b =
     }
 
 -- Each TICK takes one off it, where there is one.
-pub pulse-falls : (b : Bay) → tickedBay b .pulse ≡ b .pulse - 1
+pub pulse-falls : (s : Setting) (b : Bay) → tickedBay s b .pulse ≡ b .pulse - 1
 unfolding tickedBay movedBay
-pulse-falls b = refl
+pulse-falls s b = refl
 
 -- ---- outputs
 
@@ -220,17 +223,18 @@ pub reset-reads :
 unfolding bstrOf resetBay
 reset-reads lock = refl
 
--- Everything that it leaves in a bay: BCER 0 but for LOCK_CTL, REMREQ_STS and counts 0, no pulse, the levels stored as accepted.
+-- Everything that it leaves in a bay: BCER 0 but for LOCK_CTL, REMREQ_STS and counts 0, no pulse, no wait, the levels stored as accepted.
 pub record Begun (lock : Bool) (b : Bay) : Type 0 where
   pub bcer : bcerOf b ≡ put 7 lock
   pub remreq-sts : b .«remreq_sts» ≡ false
   pub no-counts : (i : ℕ) → count b i ≡ 0
   pub no-pulse : b .pulse ≡ 0
+  pub no-wait : b .wait ≡ 0
   pub stored : b .levels ≡ b .accepted
 
 pub reset-begins : (levels : ℕ) (lock : Bool) → Begun lock (resetBay levels lock)
 unfolding resetBay bcerOf
-reset-begins levels lock = record { bcer = lock-only lock; remreq-sts = refl; no-counts = zeros; no-pulse = refl; stored = refl }
+reset-begins levels lock = record { bcer = lock-only lock; remreq-sts = refl; no-counts = zeros; no-pulse = refl; no-wait = refl; stored = refl }
   where
     lock-only : (l : Bool) → bcerOf (resetBay levels l) ≡ put 7 l
     lock-only true = refl
@@ -254,7 +258,8 @@ pub record Nothing (b : Bay) : Type 0 where
   pub bstr : bstrOf b ≡ 0
   pub bcer : bcerOf b ≡ 0
   pub pulse : b .pulse ≡ 0
+  pub wait : b .wait ≡ 0
 
 pub empty-is : Nothing emptyBay
 unfolding emptyBay bstrOf bcerOf
-empty-is = record { levels = (refl, refl, refl); counts = refl; bstr = refl; bcer = refl; pulse = refl }
+empty-is = record { levels = (refl, refl, refl); counts = refl; bstr = refl; bcer = refl; pulse = refl; wait = refl }

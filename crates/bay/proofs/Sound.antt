@@ -1,51 +1,77 @@
--- A sound bay stays sound, whatever happens to it, and RESET makes one. Held and waiting speak of three Bools only (a device, Empty,
--- DEVSTSCHG_EN), and powered of three (PWR_CTL, LOCK_CTL, a device), so that each step is a tautology over the tests that it makes.
+-- A sound bay stays sound, whatever happens to it, and RESET makes one. Held, waiting and seating speak of four Bools only (a device,
+-- Empty, DEVSTSCHG_EN, a wait), and powered of three (PWR_CTL, LOCK_CTL, a device), so that each step is a tautology over the tests that it makes.
 -- Assumes nothing.
-use Prim.Native.Nat.{ℕ, zero, suc, _+_}
+use Prim.Native.Nat.{ℕ, zero, suc, _+_, _-_, _<_}
+use native.Mathlib.Omega.{arith}
 use mathlib.Core.Path.{_≡_, refl}
-use mathlib.Core.Logic.{_≢_}
-use mathlib.Core.Bool.{Bool, true, false, not, cond, _&&_, _||_, and-eq-true-iff, true≢false, false≢true}
+use mathlib.Core.Logic.{_≢_, _⊎_, inl, inr}
+use mathlib.Core.Bool.{Bool, true, false, not, cond, _&&_, _||_, and-eq-true-iff, or-true, true≢false, false≢true}
 use mathlib.Core.List.{[], _∷_}
 use lib.ListN.{getD}
 use lib.Dec.{eqb, ltb, leb}
-use borrow.Author.Tests.{eq-eqb, ne-eqb, eqb-true, eqb-false, not-true}
+use borrow.Author.Tests.{eq-eqb, ne-eqb, eqb-true, eqb-false, lt-ltb, ltb-true, not-true}
 use Rattle.bay.specs.Record.{N1394, NUSB, NREMREQ, EMPTY, INSERTED, ENABLED, present, level, acceptedLevel, count, emptyBay, resetBay, bayFit, withStatus}
 use Rattle.bay.specs.Debounce.{debounce, sampledBay}
-use Rattle.bay.specs.Moves.{input, heeded, presentAfter, inUse, stateAfter, movedBay, tickedBay}
-use Rattle.bay.specs.Registers.{bstrWritten, asks, stateWritten, controlledBay}
+use Rattle.bay.specs.Moves.{input, heeded, presentAfter, inUse, begun, waitAfter, inserts, stateAfter, movedBay, tickedBay}
+use Rattle.bay.specs.Registers.{bstrWritten, asks, finds, stateWritten, waitWritten, controlledBay}
 use Rattle.bay.specs.Sound.{Sound}
 use Rattle.bay.specs.declared.Bay.{Bay}
 use Rattle.bay.specs.declared.Control.{Control}
+use Rattle.bay.specs.declared.Setting.{Setting}
 use Rattle.bay.proofs.OneStep.{restart-same}
 use Rattle.bay.proofs.Taut.{implies, suppose, apply, taut}
 
--- ---- held and waiting, as a test
+-- ---- held, waiting and seating, as a test
 
--- Of a device, Empty and DEVSTSCHG_EN.
-abbrev placed : Bool → Bool → Bool → Bool
-placed device empty en = implies (not empty) device && implies (device && empty) (not en)
+-- Of a device, Empty, DEVSTSCHG_EN and a wait.
+abbrev placed : Bool → Bool → Bool → Bool → Bool
+placed device empty en wait =
+    implies (not empty) device && implies (device && empty) (not en || wait) && implies wait (empty && device && en)
 
 abbrev empty : ℕ → Bool
-empty s = eqb s EMPTY
+empty n = eqb n EMPTY
 
-record Placed (device : Bool) (s : ℕ) (en : Bool) : Type 0 where
-  held : s ≢ EMPTY → device ≡ true
-  waiting : device ≡ true → s ≡ EMPTY → en ≡ false
+abbrev runs : ℕ → Bool
+runs n = ltb 0 n
 
-test : (device : Bool) (s : ℕ) (en : Bool) → Placed device s en → placed device (empty s) en ≡ true
-test device s en p =
+record Placed (device : Bool) (n : ℕ) (en : Bool) (wait : ℕ) : Type 0 where
+  held : n ≢ EMPTY → device ≡ true
+  waiting : device ≡ true → n ≡ EMPTY → (en ≡ false) ⊎ (0 < wait)
+  seating : 0 < wait → (n ≡ EMPTY) × (device ≡ true) × (en ≡ true)
+
+test : (device : Bool) (n : ℕ) (en : Bool) (wait : ℕ) → Placed device n en wait → placed device (empty n) en (runs wait) ≡ true
+test device n en wait p =
     and-eq-true-iff _ _ .1 (
-      suppose _ _ (λ n. p .held (eqb-false s EMPTY (not-true _ n))),
-      suppose _ _ (λ d. let both = and-eq-true-iff device (empty s) .0 d in rw (p .waiting (both .0) (eqb-true s EMPTY (both .1)))),
+      and-eq-true-iff _ _ .1 (
+        suppose _ _ (λ h. p .held (eqb-false n EMPTY (not-true _ h))),
+        suppose _ _ (λ d. let both = and-eq-true-iff device (empty n) .0 d in either (p .waiting (both .0) (eqb-true n EMPTY (both .1)))),
+      ),
+      suppose _ _ (λ w. let three = p .seating (ltb-true 0 wait w) in rw (three .0, three .1, three .2)),
     )
+  where
+    either : (en ≡ false) ⊎ (0 < wait) → (not en || runs wait) ≡ true
+    either (inl e) = rw e
+    either (inr l) = rw (lt-ltb 0 wait l) (or-true (not en))
 
-meant : (device : Bool) (s : ℕ) (en : Bool) → placed device (empty s) en ≡ true → Placed device s en
-meant device s en t =
-    let both = and-eq-true-iff (implies (not (empty s)) device) (implies (device && empty s) (not en)) .0 t in
+meant : (device : Bool) (n : ℕ) (en : Bool) (wait : ℕ) → placed device (empty n) en (runs wait) ≡ true → Placed device n en wait
+meant device n en wait t =
+    let two = and-eq-true-iff (implies (not (empty n)) device && implies (device && empty n) (not en || runs wait)) (implies (runs wait) (empty n && device && en)) .0 t in
+    let both = and-eq-true-iff (implies (not (empty n)) device) (implies (device && empty n) (not en || runs wait)) .0 (two .0) in
     record {
-      held = λ n. apply (not (empty s)) _ (both .0) (rw (ne-eqb s EMPTY n));
-      waiting = λ d e. not-true _ (apply (device && empty s) _ (both .1) (and-eq-true-iff device (empty s) .1 (d, eq-eqb s EMPTY e)));
+      held = λ h. apply (not (empty n)) _ (both .0) (rw (ne-eqb n EMPTY h));
+      waiting = λ d e. either en refl (apply (device && empty n) _ (both .1) (and-eq-true-iff device (empty n) .1 (d, eq-eqb n EMPTY e)));
+      seating = λ l. three (apply (runs wait) _ (two .1) (lt-ltb 0 wait l));
     }
+  where
+    either : (t : Bool) → en ≡ t → (not en || runs wait) ≡ true → (en ≡ false) ⊎ (0 < wait)
+    either true e h = inr (ltb-true 0 wait (rw e at h))
+    either false e h = inl e
+
+    three : (empty n && device && en) ≡ true → (n ≡ EMPTY) × (device ≡ true) × (en ≡ true)
+    three h =
+        let last = and-eq-true-iff (empty n && device) en .0 h in
+        let first = and-eq-true-iff (empty n) device .0 (last .0) in
+        (eqb-true n EMPTY (first .0), first .1, last .1)
 
 -- A test that Empty doesn't pass rules Empty out.
 rules-out : (f : ℕ → Bool) (s : ℕ) → f EMPTY ≡ false → implies (f s) (not (empty s)) ≡ true
@@ -59,6 +85,21 @@ empty-pick : (t : Bool) (m n : ℕ) → empty (cond t m n) ≡ cond t (empty m) 
 empty-pick true m n = refl
 empty-pick false m n = refl
 
+-- A wait that is picked, one that falls, and one that begins.
+runs-pick : (t : Bool) (m n : ℕ) → runs (cond t m n) ≡ cond t (runs m) (runs n)
+runs-pick true m n = refl
+runs-pick false m n = refl
+
+runs-fallen : (n : ℕ) → runs (n - 1) ≡ (runs n && not (eqb n 1))
+runs-fallen zero = refl
+runs-fallen (suc zero) = refl
+runs-fallen (suc (suc n)) = rw (lt-ltb 0 (suc (suc n) - 1) (omega arith), lt-ltb 0 (suc (suc n)) (omega arith), ne-eqb (suc (suc n)) 1 (λ e. omega (arith, e)))
+
+runs-begun : (ticks n : ℕ) → runs (begun ticks n) ≡ cond (eqb ticks 0) (runs n) true
+unfolding begun
+runs-begun zero n = refl
+runs-begun (suc ticks) n = rw (ne-eqb (suc ticks) 0 (λ e. omega (arith, e))) (lt-ltb 0 (suc ticks) (omega arith))
+
 in-use-rules-out : (b : Bay) → implies (inUse b) (not (empty (b .state))) ≡ true
 unfolding inUse
 in-use-rules-out b = rules-out (λ s. eqb s INSERTED || eqb s ENABLED) (b .state) refl
@@ -67,38 +108,53 @@ asked-rules-out : (c : Control) → implies (asks c) (not (empty (c .request))) 
 unfolding asks
 asked-rules-out c = rules-out (λ r. ltb EMPTY r && leb r 4) (c .request) refl
 
--- ---- what a TICK and a write do to held and waiting
+-- ---- what a TICK and a write do to them
 
--- p and q are the device before and after, e is Empty, and x stands for the rest of a press's conditions beside the state in use, u.
+-- A bay as it is placed.
+abbrev placedIn : Bay → Bool
+placedIn b = placed (present b) (empty (b .state)) (b .control .«devstschg_en») (runs (b .wait))
+
+one-runs : (n : ℕ) → implies (eqb n 1) (runs n) ≡ true
+one-runs n = suppose (eqb n 1) (runs n) (λ e. lt-ltb 0 n (omega (arith, eqb-true n 1 e)))
+
+-- p and q are the device before and after, e is Empty, w a wait and o one of 1, z is that 42h is 0, and x stands for the rest of a
+-- press's conditions beside the state in use, u.
 placed-ticked :
-    (b : Bay) (q press : Bool) → placed (present b) (empty (b .state)) (b .control .«devstschg_en») ≡ true
-    → placed q (empty (stateAfter b (present b && not q) (not (present b) && q) press)) (b .control .«devstschg_en») ≡ true
-unfolding stateAfter
-placed-ticked b q press h =
-    rw (empty-pick, empty-pick, empty-pick)
+    (ticks : ℕ) (b : Bay) (q press : Bool) → placedIn b ≡ true
+    → placed q (empty (stateAfter ticks b (present b && not q) (not (present b) && q) press)) (b .control .«devstschg_en») (runs (waitAfter ticks b (present b && not q) (not (present b) && q))) ≡ true
+unfolding stateAfter waitAfter inserts
+placed-ticked ticks b q press h =
+    rw (empty-pick, empty-pick, empty-pick, runs-pick, runs-pick, runs-fallen, runs-begun)
     (apply _ _
-    (taut 6
-    (λ p q en x u e.
-    implies (placed p e en && implies u (not e))
-    (placed q (cond (p && not q) true (cond (not p && q && en) false (cond (x && u) false e))) en))
-    refl (present b) q (b .control .«devstschg_en») (press && b .control .«remreq_en» && not (b .«remreq_sts»)) (inUse b) (empty (b .state)))
-    (and-eq-true-iff _ _ .1 (h, in-use-rules-out b)))
+    (taut 9
+    (λ p q en x u e w o z.
+    implies (placed p e en w && implies u (not e) && implies o w)
+    (placed q (cond (p && not q) true (cond (cond (not p && q && en) z o) false (cond (x && u) false e))) en
+    (cond (p && not q) false (cond (not p && q && en) (cond z w true) (w && not o)))))
+    refl (present b) q (b .control .«devstschg_en») (press && b .control .«remreq_en» && not (b .«remreq_sts»)) (inUse b) (empty (b .state))
+    (runs (b .wait)) (eqb (b .wait) 1) (eqb ticks 0))
+    (and-eq-true-iff _ _ .1 (and-eq-true-iff _ _ .1 (h, in-use-rules-out b), one-runs (b .wait))))
 
 -- a is that the request is stored, r that it is Empty, and m DEVSTSCHG_EN as written.
 placed-written :
-    (c : Control) (b : Bay) → placed (present b) (empty (b .state)) (b .control .«devstschg_en») ≡ true
-    → placed (present b) (empty (stateWritten c (present b) b)) (c .«devstschg_en») ≡ true
-unfolding stateWritten
-placed-written c b h =
-    rw (empty-pick, empty-pick, empty-pick)
+    (ticks : ℕ) (c : Control) (b : Bay) → placedIn b ≡ true
+    → placed (present b) (empty (stateWritten ticks c (present b) b)) (c .«devstschg_en») (runs (waitWritten ticks c (present b) b)) ≡ true
+unfolding stateWritten waitWritten finds
+placed-written ticks c b h =
+    rw (empty-pick, empty-pick, empty-pick, runs-pick, runs-pick, runs-begun)
     (apply _ _
-    (taut 8
-    (λ a r p en m x u e.
-    implies (placed p e en && implies u (not e) && implies a (not r))
-    (placed p (cond (a && p) r (cond (m && not en && e && p) false (cond (x && u) false e))) m))
+    (taut 10
+    (λ a r p en m x u e w z.
+    implies (placed p e en w && implies u (not e) && implies a (not r))
+    (placed p (cond (a && p) r (cond (m && not en && e && p && z) false (cond (x && u) false e))) m
+    (cond (not m || a && p) false (cond (m && not en && e && p) (cond z w true) w))))
     refl (asks c) (empty (c .request)) (present b) (b .control .«devstschg_en») (c .«devstschg_en»)
-    (c .«remreq_en» && not (b .control .«remreq_en») && b .«remreq_sts») (inUse b) (empty (b .state)))
+    (c .«remreq_en» && not (b .control .«remreq_en») && b .«remreq_sts») (inUse b) (empty (b .state)) (runs (b .wait)) (eqb ticks 0))
     (and-eq-true-iff _ _ .1 (and-eq-true-iff _ _ .1 (h, in-use-rules-out b), asked-rules-out c)))
+
+placed-sound : (b : Bay) → Sound b → placedIn b ≡ true
+placed-sound b s =
+    test (present b) (b .state) (b .control .«devstschg_en») (b .wait) (record { held = s .held; waiting = s .waiting; seating = s .seating })
 
 -- ---- powered
 
@@ -141,7 +197,8 @@ reset-sound levels lock =
     record {
       powered = λ w. absurd (false≢true w);
       held = λ n. absurd (n refl);
-      waiting = λ d e. refl;
+      waiting = λ d e. inl refl;
+      seating = λ l. absurd (omega (arith, l));
       still = λ i _. of-three (λ i n. n ≡ 0) refl refl refl (λ i. refl) i;
     }
 
@@ -157,50 +214,52 @@ sampled-sound levels b s =
       powered = s .powered;
       held = s .held;
       waiting = s .waiting;
+      seating = s .seating;
       still =
           of-three (λ i n. level (sampledBay levels b) i ≡ acceptedLevel b i → n ≡ 0) (restart-same _ _ _) (restart-same _ _ _)
           (restart-same _ _ _) (λ i e. refl);
     }
 
-pub ticked-sound : (b : Bay) → Sound b → Sound (tickedBay b)
+pub ticked-sound : (g : Setting) (b : Bay) → Sound b → Sound (tickedBay g b)
 unfolding tickedBay movedBay present
-ticked-sound b s =
+ticked-sound g b s =
     let q = presentAfter (input b N1394) (input b NUSB) in
     let place =
-    meant q (tickedBay b .state) (b .control .«devstschg_en»)
-    (placed-ticked b q (heeded (input b N1394) (input b NUSB) (input b NREMREQ))
-    (test (present b) (b .state) (b .control .«devstschg_en») (record { held = s .held; waiting = s .waiting })))
+    meant q (tickedBay g b .state) (b .control .«devstschg_en») (tickedBay g b .wait)
+    (placed-ticked (g .«wait_ticks») b q (heeded (input b N1394) (input b NUSB) (input b NREMREQ)) (placed-sound b s))
     in
     record {
       powered = powered-ticked (b .control .«pwr_ctl») (b .control .«lock_ctl») (present b) q (s .powered);
       held = place .held;
       waiting = place .waiting;
+      seating = place .seating;
       still =
-          of-three (λ i n. level b i ≡ acceptedLevel (tickedBay b) i → n ≡ 0) (still-debounced _ _ _ _ (s .still N1394))
+          of-three (λ i n. level b i ≡ acceptedLevel (tickedBay g b) i → n ≡ 0) (still-debounced _ _ _ _ (s .still N1394))
           (still-debounced _ _ _ _ (s .still NUSB)) (still-debounced _ _ _ _ (s .still NREMREQ)) (λ i e. refl);
     }
 
 pub bstr-written-sound : (v : ℕ) (b : Bay) → Sound b → Sound (bstrWritten v b)
 unfolding bstrWritten present
-bstr-written-sound v b s = record { powered = s .powered; held = s .held; waiting = s .waiting; still = s .still }
+bstr-written-sound v b s = record { powered = s .powered; held = s .held; waiting = s .waiting; seating = s .seating; still = s .still }
 
-pub controlled-sound : (c : Control) (mode : Bool) (ticks : ℕ) (b : Bay) → Sound b → Sound (controlledBay c mode ticks b)
+pub controlled-sound : (c : Control) (g : Setting) (b : Bay) → Sound b → Sound (controlledBay c g b)
 unfolding controlledBay present
-controlled-sound c mode ticks b s =
+controlled-sound c g b s =
     let place =
-    meant (present b) (stateWritten c (present b) b) (c .«devstschg_en»)
-    (placed-written c b (test (present b) (b .state) (b .control .«devstschg_en») (record { held = s .held; waiting = s .waiting })))
+    meant (present b) (controlledBay c g b .state) (c .«devstschg_en») (controlledBay c g b .wait)
+    (placed-written (g .«wait_ticks») c b (placed-sound b s))
     in
     record {
       powered = λ w. let both = and-eq-true-iff (c .«pwr_ctl» && c .«lock_ctl») (present b) .0 w in (and-eq-true-iff (c .«pwr_ctl») (c .«lock_ctl») .0 (both .0) .1, both .1);
       held = place .held;
       waiting = place .waiting;
+      seating = place .seating;
       still = s .still;
     }
 
 -- Fitness alone doesn't make a bay sound: this one is fit, and powered with nothing in it.
 poweredAndEmpty : Bay
-poweredAndEmpty = withStatus EMPTY false false powered 0 emptyBay
+poweredAndEmpty = withStatus EMPTY false false powered 0 0 emptyBay
   where
     powered : Control
     powered =

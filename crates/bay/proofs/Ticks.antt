@@ -6,37 +6,38 @@ use mathlib.Core.List.{List, [], _∷_}
 use lib.Dec.{eqb}
 use lib.ListN.{length, getD}
 use native.Mathlib.Omega.{arith}
-use borrow.Author.Tests.{not-true}
+use borrow.Author.Tests.{not-true, eqb-true}
 use Rattle.bay.specs.Record.{N1394, NUSB, NREMREQ, ticksFor, level, acceptedLevel, count, present, EMPTY, REMOVAL-ALLOWED, withInputs, withStatus}
 use Rattle.bay.specs.Debounce.{differs, settles, debounce}
-use Rattle.bay.specs.Moves.{input, presentAfter, leaves, arrives, changes, pressed, heeded, stateAfter, controlAfter, requestedAfter, changedAfter, movedBay, tickedBay}
+use Rattle.bay.specs.Moves.{input, presentAfter, leaves, arrives, changes, pressed, heeded, waitAfter, inserts, stateAfter, controlAfter, requestedAfter, changedAfter, movedBay, tickedBay}
 use Rattle.bay.specs.Table.{pressOver}
 use Rattle.bay.specs.declared.Bay.{Bay}
 use Rattle.bay.specs.declared.Control.{Control}
 use Rattle.bay.specs.declared.Input.{Input}
+use Rattle.bay.specs.declared.Setting.{Setting}
 use Rattle.bay.proofs.OneStep.{counting, steady-input}
 
--- A bay after its inputs, but for its state, REMREQ_STS, DEVSTSCHG and BCER.
-abbrev pub after : Bay → Input → Input → Input → ℕ → Bool → Bool → Control → Bay
-after b n1394 nusb nremreq state req chg control =
-    withStatus state req chg control (b .pulse - 1)
+-- A bay after its inputs, but for its state, REMREQ_STS, DEVSTSCHG, BCER and wait.
+abbrev pub after : Bay → Input → Input → Input → ℕ → Bool → Bool → Control → ℕ → Bay
+after b n1394 nusb nremreq state req chg control wait =
+    withStatus state req chg control (b .pulse - 1) wait
     (withInputs (b .levels) (n1394 .accepted ∷ nusb .accepted ∷ nremreq .accepted ∷ [])
     (n1394 .count ∷ nusb .count ∷ nremreq .count ∷ []) (b .«n_sl») b)
 
-module _ (b : Bay) (n1394 nusb nremreq : Input) where
+module _ (ticks : ℕ) (b : Bay) (n1394 nusb nremreq : Input) where
   pub left :
       leaves b n1394 nusb ≡ true
-      → movedBay b n1394 nusb nremreq
-      ≡ after b n1394 nusb nremreq EMPTY (b .«remreq_sts») (changedAfter b (changes n1394 nusb) (eqb (b .state) REMOVAL-ALLOWED && not (b .control .«remevtwak_en»))) (controlAfter true (b .control))
-  unfolding movedBay stateAfter
+      → movedBay ticks b n1394 nusb nremreq
+      ≡ after b n1394 nusb nremreq EMPTY (b .«remreq_sts») (changedAfter b (changes n1394 nusb) (eqb (b .state) REMOVAL-ALLOWED && not (b .control .«remevtwak_en»))) (controlAfter true (b .control)) 0
+  unfolding movedBay stateAfter waitAfter
   left e =
       let absent = not-true (presentAfter n1394 nusb) (and-eq-true-iff (present b) (not (presentAfter n1394 nusb)) .0 e .1) in
       rw (e, absent, and-true) (simp (and-false, or-false))
 
   pub stayed :
       leaves b n1394 nusb ≡ false
-      → movedBay b n1394 nusb nremreq
-      ≡ after b n1394 nusb nremreq (stateAfter b false (arrives b n1394 nusb) (heeded n1394 nusb nremreq)) (requestedAfter b (heeded n1394 nusb nremreq)) (b .devstschg || changes n1394 nusb) (b .control)
+      → movedBay ticks b n1394 nusb nremreq
+      ≡ after b n1394 nusb nremreq (stateAfter ticks b false (arrives b n1394 nusb) (heeded n1394 nusb nremreq)) (requestedAfter b (heeded n1394 nusb nremreq)) (b .devstschg || changes n1394 nusb) (b .control) (waitAfter ticks b false (arrives b n1394 nusb))
   unfolding movedBay
   stayed e = rw (e, and-false) (simp and-true)
 
@@ -52,31 +53,34 @@ three d (x ∷ y ∷ []) h = absurd (omega arith)
 three d (x ∷ y ∷ z ∷ []) h = refl
 three d (x ∷ y ∷ z ∷ w ∷ xs) h = absurd (omega arith)
 
--- Only the pulse falls.
+-- Only the pulse falls, where no wait runs.
 pub steady :
-    (b : Bay) → length (b .accepted) ≡ 3 → length (b .counts) ≡ 3 → (same b N1394 && same b NUSB && same b NREMREQ) ≡ true
-    → tickedBay b
-    ≡ withStatus (b .state) (b .«remreq_sts») (b .devstschg) (b .control) (b .pulse - 1) b
-unfolding tickedBay present stateAfter
-steady b la lc e =
-    let p = and-eq-true-iff (same b N1394 && same b NUSB) (same b NREMREQ) .0 e in
+    (s : Setting) (b : Bay) → length (b .accepted) ≡ 3 → length (b .counts) ≡ 3
+    → (same b N1394 && same b NUSB && same b NREMREQ && eqb (b .wait) 0) ≡ true
+    → tickedBay s b
+    ≡ withStatus (b .state) (b .«remreq_sts») (b .devstschg) (b .control) (b .pulse - 1) (b .wait) b
+unfolding tickedBay present stateAfter waitAfter inserts
+steady s b la lc e =
+    let w = and-eq-true-iff (same b N1394 && same b NUSB && same b NREMREQ) (eqb (b .wait) 0) .0 e in
+    let p = and-eq-true-iff (same b N1394 && same b NUSB) (same b NREMREQ) .0 (w .0) in
     let q = and-eq-true-iff (same b N1394) (same b NUSB) .0 (p .0) in
     rw (
       steady-input (ticksFor N1394) (level b N1394) (acceptedLevel b N1394) (count b N1394) (q .0),
       steady-input (ticksFor NUSB) (level b NUSB) (acceptedLevel b NUSB) (count b NUSB) (q .1),
       steady-input (ticksFor NREMREQ) (level b NREMREQ) (acceptedLevel b NREMREQ) (count b NREMREQ) (p .1),
-      stayed b (counting (acceptedLevel b N1394) (count b N1394)) (counting (acceptedLevel b NUSB) (count b NUSB)) (counting (acceptedLevel b NREMREQ) (count b NREMREQ)) (and-not-self (present b)),
+      stayed (s .«wait_ticks») b (counting (acceptedLevel b N1394) (count b N1394)) (counting (acceptedLevel b NUSB) (count b NUSB)) (counting (acceptedLevel b NREMREQ) (count b NREMREQ)) (and-not-self (present b)),
       not-and-self,
       three false (b .accepted) la,
       three 0 (b .counts) lc,
+      eqb-true (b .wait) 0 (w .1),
     )
     (simp or-false)
 
 -- ---- what a TICK brings, by the accepted levels before and after it
 
-pub present-after : (b : Bay) → present (tickedBay b) ≡ presentAfter (input b N1394) (input b NUSB)
+pub present-after : (s : Setting) (b : Bay) → present (tickedBay s b) ≡ presentAfter (input b N1394) (input b NUSB)
 unfolding tickedBay movedBay present
-present-after b = refl
+present-after s b = refl
 
 -- A level that was accepted in this TICK is one that was not accepted before.
 accepts-other : (n : ℕ) (l a : Bool) (k : ℕ) → debounce n l a k .settled ≡ differs a (debounce n l a k .accepted)
@@ -96,15 +100,15 @@ accepts-other n false false k = refl
 
 -- So a change and a press show at the accepted levels.
 pub changes-after :
-    (b : Bay)
+    (s : Setting) (b : Bay)
     → changes (input b N1394) (input b NUSB)
-    ≡ (differs (acceptedLevel b N1394) (acceptedLevel (tickedBay b) N1394) || differs (acceptedLevel b NUSB) (acceptedLevel (tickedBay b) NUSB))
+    ≡ (differs (acceptedLevel b N1394) (acceptedLevel (tickedBay s b) N1394) || differs (acceptedLevel b NUSB) (acceptedLevel (tickedBay s b) NUSB))
 unfolding tickedBay movedBay
-changes-after b = rw (accepts-other (ticksFor N1394) (level b N1394) (acceptedLevel b N1394) (count b N1394), accepts-other (ticksFor NUSB) (level b NUSB) (acceptedLevel b NUSB) (count b NUSB))
+changes-after s b = rw (accepts-other (ticksFor N1394) (level b N1394) (acceptedLevel b N1394) (count b N1394), accepts-other (ticksFor NUSB) (level b NUSB) (acceptedLevel b NUSB) (count b NUSB))
 
-pub press-after : (b : Bay) → pressed (input b NREMREQ) ≡ (acceptedLevel b NREMREQ && not (acceptedLevel (tickedBay b) NREMREQ))
+pub press-after : (s : Setting) (b : Bay) → pressed (input b NREMREQ) ≡ (acceptedLevel b NREMREQ && not (acceptedLevel (tickedBay s b) NREMREQ))
 unfolding tickedBay movedBay
-press-after b = ap (λ t. t && not (input b NREMREQ .accepted)) (accepts-other (ticksFor NREMREQ) (level b NREMREQ) (acceptedLevel b NREMREQ) (count b NREMREQ)) ∙ fell (acceptedLevel b NREMREQ) (input b NREMREQ .accepted)
+press-after s b = ap (λ t. t && not (input b NREMREQ .accepted)) (accepts-other (ticksFor NREMREQ) (level b NREMREQ) (acceptedLevel b NREMREQ) (count b NREMREQ)) ∙ fell (acceptedLevel b NREMREQ) (input b NREMREQ .accepted)
   where
     fell : (before after : Bool) → (differs before after && not after) ≡ (before && not after)
     fell true true = refl
@@ -113,5 +117,5 @@ press-after b = ap (λ t. t && not (input b NREMREQ .accepted)) (accepts-other (
     fell false false = refl
 
 -- .. and so does a heeded press.
-pub heeded-after : (b : Bay) → heeded (input b N1394) (input b NUSB) (input b NREMREQ) ≡ pressOver b (tickedBay b)
-heeded-after b = rw (press-after b, present-after b)
+pub heeded-after : (s : Setting) (b : Bay) → heeded (input b N1394) (input b NUSB) (input b NREMREQ) ≡ pressOver b (tickedBay s b)
+heeded-after s b = rw (press-after s b, present-after s b)

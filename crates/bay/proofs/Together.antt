@@ -7,7 +7,7 @@ use mathlib.Core.Logic.{_⊎_, inl, inr}
 use mathlib.Core.Bool.{Bool, true, false, not, cond, _&&_, _||_, Bool·beq, and-false, or-true, or-false, true≢false}
 use mathlib.Core.List.{[], _∷_}
 use lib.Dec.{leb}
-use borrow.Author.Tests.{leb-true, le-leb, lt-leb}
+use borrow.Author.Tests.{leb-true, le-leb, lt-leb, le-ltb}
 use Rattle.bits.specs.Bits.{bit}
 use Rattle.bay.specs.Record.{NREMREQ, level, acceptedLevel, present}
 use Rattle.bay.specs.Debounce.{sampledBay}
@@ -16,8 +16,9 @@ use Rattle.bay.specs.Happens.{pins, happens, happensAll, line}
 use Rattle.bay.specs.Order.{tickedFor, Pressing, Releasing, Contacts, Leaving, Coming, heeds}
 use Rattle.bay.specs.Sound.{Sound}
 use Rattle.bay.specs.declared.Bay.{Bay}
+use Rattle.bay.specs.declared.Setting.{Setting}
 use Rattle.bay.proofs.Sound.{sampled-sound}
-use Rattle.bay.proofs.Laws.{held-button, released-button}
+use Rattle.bay.proofs.Laws.{held-button, released-button, sampled}
 use Rattle.bay.proofs.Happens.{bay-debounced, resting}
 use Rattle.bay.proofs.Underway.{not-below, button-later}
 use Rattle.bay.proofs.Order.{removal-and-press, arrival-and-press}
@@ -97,54 +98,55 @@ module _ (levels : ℕ) (b : Bay) (sound : Sound b) (still : Still b) (up : acce
 
 -- ---- begun together
 
--- A removal and a press: the press is accepted 5 ticks before the device has left.
-pub record PressThenRemoval (b : Bay) : Type 0 where
-  pub nothing : (k : ℕ) → k < 5 → (tickedFor k b .state ≡ b .state) × (tickedFor k b .«remreq_sts» ≡ b .«remreq_sts»)
-  pub pressed : (k : ℕ) → 5 ≤ k → k < 10 → (tickedFor k b .state ≡ cond (heeds b) 3 (b .state)) × (tickedFor k b .«remreq_sts» ≡ true)
-  pub gone : (k : ℕ) → 10 ≤ k → (tickedFor k b .state ≡ 0) × (tickedFor k b .«remreq_sts» ≡ true)
+-- A removal and a press where no wait runs: the press is accepted 5 ticks before the device has left.
+pub record PressThenRemoval (g : Setting) (b : Bay) : Type 0 where
+  pub nothing : (k : ℕ) → k < 5 → (tickedFor g k b .state ≡ b .state) × (tickedFor g k b .«remreq_sts» ≡ b .«remreq_sts»)
+  pub pressed : (k : ℕ) → 5 ≤ k → k < 10 → (tickedFor g k b .state ≡ cond (heeds b) 3 (b .state)) × (tickedFor g k b .«remreq_sts» ≡ true)
+  pub gone : (k : ℕ) → 10 ≤ k → (tickedFor g k b .state ≡ 0) × (tickedFor g k b .«remreq_sts» ≡ true)
 
-removal-outlasted : (b : Bay) → Leaving 0 b → Pressing 0 b → PressThenRemoval b
-removal-outlasted b leaving pressing =
+removal-outlasted : (g : Setting) (b : Bay) → Leaving 0 b → Pressing 0 b → b .wait ≡ 0 → PressThenRemoval g b
+removal-outlasted g b leaving pressing seated =
     record {
       nothing =
           λ k h.
-          let both = removal-and-press 0 0 b leaving pressing k in
+          let both = removal-and-press g 0 0 b leaving pressing seated k in
           (both .moves ∙ rw (lt-leb 10 (0 + k) (omega arith), lt-leb 5 (0 + k) (omega arith)), both .told ∙ rw (lt-leb 5 (0 + k) (omega arith)) (or-false (b .«remreq_sts»)));
       pressed =
           λ k l h.
-          let both = removal-and-press 0 0 b leaving pressing k in
+          let both = removal-and-press g 0 0 b leaving pressing seated k in
           (both .moves ∙ rw (lt-leb 10 (0 + k) (omega arith), le-leb 5 (0 + k) (omega arith)), both .told ∙ rw (le-leb 5 (0 + k) (omega arith)) (or-true (b .«remreq_sts»)));
       gone =
           λ k h.
-          let both = removal-and-press 0 0 b leaving pressing k in
+          let both = removal-and-press g 0 0 b leaving pressing seated k in
           (both .moves ∙ rw (le-leb 10 (0 + k) (omega arith)), both .told ∙ rw (le-leb 5 (0 + k) (omega arith)) (or-true (b .«remreq_sts»)));
     }
 
 pub press-then-removal :
-    (levels : ℕ) (b : Bay) → Sound b → Still b → acceptedLevel b NREMREQ ≡ true → bit 1 levels ≡ false
-    → present b ≡ true → bit 3 levels ≡ true → bit 2 levels ≡ true → PressThenRemoval (sampledBay levels b)
-press-then-removal levels b s t u d p q r = removal-outlasted (sampledBay levels b) (pulls levels b s t u d p q r) (presses levels b s t u d)
+    (g : Setting) (levels : ℕ) (b : Bay) → Sound b → Still b → acceptedLevel b NREMREQ ≡ true → bit 1 levels ≡ false
+    → present b ≡ true → bit 3 levels ≡ true → bit 2 levels ≡ true → b .wait ≡ 0 → PressThenRemoval g (sampledBay levels b)
+press-then-removal g levels b s t u d p q r w =
+    removal-outlasted g (sampledBay levels b) (pulls levels b s t u d p q r) (presses levels b s t u d) (sampled levels b .wait-kept ∙ w)
 
 -- An arrival and a press: the press is accepted 5 ticks before the device, and sets nothing, then or later.
-pub record PressThenArrival (b : Bay) : Type 0 where
-  pub untold : (k : ℕ) → tickedFor k b .«remreq_sts» ≡ b .«remreq_sts»
-  pub waiting : (k : ℕ) → k < 10 → tickedFor k b .state ≡ 0
-  pub arrived : (k : ℕ) → 10 ≤ k → tickedFor k b .state ≡ cond (b .control .«devstschg_en») 1 0
+pub record PressThenArrival (g : Setting) (b : Bay) : Type 0 where
+  pub untold : (k : ℕ) → tickedFor g k b .«remreq_sts» ≡ b .«remreq_sts»
+  pub waiting : (k : ℕ) → k < 10 + g .«wait_ticks» → tickedFor g k b .state ≡ 0
+  pub arrived : (k : ℕ) → 10 + g .«wait_ticks» ≤ k → tickedFor g k b .state ≡ cond (b .control .«devstschg_en») 1 0
 
-arrival-awaited : (b : Bay) → Sound b → Coming 0 b → Pressing 0 b → PressThenArrival b
-arrival-awaited b sound coming pressing =
+arrival-awaited : (g : Setting) (b : Bay) → Sound b → Coming 0 b → Pressing 0 b → PressThenArrival g b
+arrival-awaited g b sound coming pressing =
     record {
-      untold = λ k. arrival-and-press 0 0 b sound coming pressing k .told ∙ rw (and-false (leb 5 (0 + k))) (or-false (b .«remreq_sts»));
-      waiting = λ k h. arrival-and-press 0 0 b sound coming pressing k .moves ∙ rw (lt-leb 10 (0 + k) (omega arith));
+      untold = λ k. arrival-and-press g 0 0 b sound coming pressing k .told ∙ rw (and-false (leb 5 (0 + k))) (or-false (b .«remreq_sts»));
+      waiting = λ k h. arrival-and-press g 0 0 b sound coming pressing k .moves ∙ rw (lt-leb (10 + g .«wait_ticks») (0 + k) (omega arith));
       arrived =
-          λ k h. arrival-and-press 0 0 b sound coming pressing k .moves ∙ rw (le-leb 10 (0 + k) (omega arith), and-false (leb 5 (0 + k)));
+          λ k h. arrival-and-press g 0 0 b sound coming pressing k .moves ∙ rw (le-leb (10 + g .«wait_ticks») (0 + k) (omega arith), le-ltb (0 + 5 + g .«wait_ticks») 0 (omega arith), and-false (leb 5 (0 + k)));
     }
 
 pub press-then-arrival :
-    (levels : ℕ) (b : Bay) → Sound b → Still b → acceptedLevel b NREMREQ ≡ true → bit 1 levels ≡ false
-    → present b ≡ false → (bit 3 levels ≡ false) ⊎ (bit 2 levels ≡ false) → PressThenArrival (sampledBay levels b)
-press-then-arrival levels b s t u d p q =
-    arrival-awaited (sampledBay levels b) (sampled-sound levels b s) (pushes levels b s t u d p q) (presses levels b s t u d)
+    (g : Setting) (levels : ℕ) (b : Bay) → Sound b → Still b → acceptedLevel b NREMREQ ≡ true → bit 1 levels ≡ false
+    → present b ≡ false → (bit 3 levels ≡ false) ⊎ (bit 2 levels ≡ false) → PressThenArrival g (sampledBay levels b)
+press-then-arrival g levels b s t u d p q =
+    arrival-awaited g (sampledBay levels b) (sampled-sound levels b s) (pushes levels b s t u d p q) (presses levels b s t u d)
 
 -- ---- a release
 
@@ -153,19 +155,19 @@ pub record Released (r k : ℕ) (before after : Bay) : Type 0 where
   pub button : acceptedLevel after NREMREQ ≡ leb 5 (r + k)
   pub untold : after .«remreq_sts» ≡ before .«remreq_sts»
 
-module _ (r : ℕ) (b : Bay) (releasing : Releasing r b) where
-  comes-up : (k : ℕ) → acceptedLevel (tickedFor k b) NREMREQ ≡ leb 5 (r + k)
-  comes-up k = button-later false r b releasing k ∙ not-below (r + k) 5
+module _ (g : Setting) (r : ℕ) (b : Bay) (releasing : Releasing r b) where
+  comes-up : (k : ℕ) → acceptedLevel (tickedFor g k b) NREMREQ ≡ leb 5 (r + k)
+  comes-up k = button-later g false r b releasing k ∙ not-below (r + k) 5
 
-  stays-untold : (k : ℕ) → tickedFor k b .«remreq_sts» ≡ b .«remreq_sts»
+  stays-untold : (k : ℕ) → tickedFor g k b .«remreq_sts» ≡ b .«remreq_sts»
   unfolding tickedFor
   stays-untold zero = refl
   stays-untold (suc k) = go (leb 5 (r + k)) refl ∙ stays-untold k
     where
       -- Before the fifth tick it is down, and from then on it stays up.
-      go : (t : Bool) → leb 5 (r + k) ≡ t → tickedFor (suc k) b .«remreq_sts» ≡ tickedFor k b .«remreq_sts»
-      go true e = held-button (tickedFor k b) (comes-up (suc k) ∙ le-leb 5 (r + suc k) (omega (arith, leb-true 5 (r + k) e)) ∙ sym (comes-up k ∙ e)) .untold
-      go false e = released-button (tickedFor k b) (comes-up k ∙ e) .untold
+      go : (t : Bool) → leb 5 (r + k) ≡ t → tickedFor g (suc k) b .«remreq_sts» ≡ tickedFor g k b .«remreq_sts»
+      go true e = held-button g (tickedFor g k b) (comes-up (suc k) ∙ le-leb 5 (r + suc k) (omega (arith, leb-true 5 (r + k) e)) ∙ sym (comes-up k ∙ e)) .untold
+      go false e = released-button g (tickedFor g k b) (comes-up k ∙ e) .untold
 
-  pub release : (k : ℕ) → Released r k b (tickedFor k b)
+  pub release : (k : ℕ) → Released r k b (tickedFor g k b)
   release k = record { button = comes-up k; untold = stays-untold k }

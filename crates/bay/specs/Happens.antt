@@ -1,6 +1,5 @@
 -- What happens to a bay from one RESET to the next, while it is open, and what each of its inputs sees of that.
 use Prim.Native.Nat.{ℕ, _-_}
-use mathlib.Core.Bool.{Bool}
 use mathlib.Core.List.{List, [], _∷_, _++_}
 use Rattle.bits.specs.Bits.{bit}
 use Rattle.bay.specs.Record.{level, acceptedLevel, count}
@@ -10,19 +9,21 @@ use Rattle.bay.specs.Moves.{tickedBay}
 use Rattle.bay.specs.Registers.{bstrWritten, controlledBay}
 use Rattle.bay.specs.declared.Bay.{Bay}
 use Rattle.bay.specs.declared.Control.{Control}
+use Rattle.bay.specs.declared.Setting.{Setting}
 
--- A TICK, PINS with its four levels, a write of BSTR, and a write of BCER in a LOCK_MODE with LETR's ticks.
+-- A TICK, PINS with its four levels, a write of BSTR, and a write of BCER; a TICK and a write of BCER each with what LOCK_MODE, LETR and
+-- 42h are then.
 pub data Happens : Type 0 where
-  tick : Happens
+  tick : Setting → Happens
   pins : ℕ → Happens
   bstr : ℕ → Happens
-  bcer : Control → Bool → ℕ → Happens
+  bcer : Control → Setting → Happens
 
 unfoldable pub happens : Happens → Bay → Bay
-happens tick b = tickedBay b
+happens (tick s) b = tickedBay s b
 happens (pins levels) b = sampledBay levels b
 happens (bstr v) b = bstrWritten v b
-happens (bcer c mode ticks) b = controlledBay c mode ticks b
+happens (bcer c s) b = controlledBay c s b
 
 unfoldable pub happensAll : List Happens → Bay → Bay
 happensAll [] b = b
@@ -34,10 +35,10 @@ line b i = record { level = level b i; accepted = acceptedLevel b i; count = cou
 
 -- What it sees: every TICK, its own level in each PINS (n1394, nUSB, nREMREQ from bit 3 down), and nothing of a write.
 abbrev pub seenOf : ℕ → Happens → List Seen
-seenOf i tick = Tick ∷ []
+seenOf i (tick s) = Tick ∷ []
 seenOf i (pins levels) = Sample (bit (3 - i) levels) ∷ []
 seenOf i (bstr v) = []
-seenOf i (bcer c mode ticks) = []
+seenOf i (bcer c s) = []
 
 abbrev pub seen : ℕ → List Happens → List Seen
 seen i [] = []

@@ -8,3 +8,4 @@ pub mod Sound
 pub mod Happens
 pub mod Order
 pub mod Table
+pub mod Waits

@@ -1,4 +1,4 @@
--- What a TICK makes of a bay (document 01, "Bay moves"): it makes at most one move, presence first.
+-- What a TICK makes of a bay (document 01, "Bay moves"; document 02, request 6): it makes at most one move, presence first.
 use Prim.Native.Nat.{ℕ, _-_}
 use mathlib.Core.Bool.{Bool, not, cond, _&&_, _||_}
 use mathlib.Core.List.{[], _∷_}
@@ -25,6 +25,7 @@ use Rattle.bay.specs.Debounce.{debounce}
 use Rattle.bay.specs.declared.Bay.{Bay}
 use Rattle.bay.specs.declared.Control.{Control}
 use Rattle.bay.specs.declared.Input.{Input}
+use Rattle.bay.specs.declared.Setting.{Setting}
 
 -- Input i after this TICK: its accepted level, its count, and whether a level was accepted.
 abbrev pub input : Bay → ℕ → Input
@@ -61,13 +62,29 @@ quiet b n1394 nusb = eqb (b .state) REMOVAL-ALLOWED && leaves b n1394 nusb && no
 unfoldable pub inUse : Bay → Bool
 inUse b = eqb (b .state) INSERTED || eqb (b .state) ENABLED
 
--- 1. Present to not present: Empty. Not present to present with DEVSTSCHG_EN: Inserted.
+-- ---- the wait of a device that seats slowly (document 02, request 6): the ticks that are left of it, 0 where none runs
+
+-- One begins with the ticks that 42h has; with 0 none begins.
+unfoldable pub begun : ℕ → ℕ → ℕ
+begun ticks wait = cond (eqb ticks 0) wait ticks
+
+-- Present to not present ends it. Not present to present with DEVSTSCHG_EN begins one. Else one above 0 falls by one.
+unfoldable pub waitAfter : ℕ → Bay → Bool → Bool → ℕ
+waitAfter ticks b gone come = cond gone 0 (cond (come && b .control .«devstschg_en») (begun ticks (b .wait)) (b .wait - 1))
+
+-- The bay is to be Inserted: at an arrival with DEVSTSCHG_EN if 42h is 0; else as its wait falls to 0.
+unfoldable pub inserts : ℕ → Bay → Bool → Bool
+inserts ticks b come = cond (come && b .control .«devstschg_en») (eqb ticks 0) (eqb (b .wait) 1)
+
+-- ---- the move
+
+-- 1. Present to not present: Empty. Else, where the bay is to be: Inserted.
 -- 2. With a heeded press: if REMREQ_EN is 1, REMREQ_STS was 0 before this press, and step 1 gave no state, Inserted or Enabled goes to
 -- Removal Requested.
-unfoldable pub stateAfter : Bay → Bool → Bool → Bool → ℕ
-stateAfter b gone come press =
+unfoldable pub stateAfter : ℕ → Bay → Bool → Bool → Bool → ℕ
+stateAfter ticks b gone come press =
     cond gone EMPTY
-    (cond (come && b .control .«devstschg_en») INSERTED
+    (cond (inserts ticks b come) INSERTED
     (cond (press && b .control .«remreq_en» && not (b .«remreq_sts») && inUse b) REMOVAL-REQUESTED (b .state)))
 
 -- Present to not present: stored request 0, PWR_CTL 0.
@@ -91,14 +108,15 @@ abbrev pub changedAfter : Bay → Bool → Bool → Bool
 changedAfter b change silent = b .devstschg || change && not silent
 
 -- All of it, with the inputs as accepted and counted; a pulse above 0 falls by one.
-unfoldable pub movedBay : Bay → Input → Input → Input → Bay
-movedBay b n1394 nusb nremreq =
+unfoldable pub movedBay : ℕ → Bay → Input → Input → Input → Bay
+movedBay ticks b n1394 nusb nremreq =
     withStatus
-    (stateAfter b (leaves b n1394 nusb) (arrives b n1394 nusb) (heeded n1394 nusb nremreq))
+    (stateAfter ticks b (leaves b n1394 nusb) (arrives b n1394 nusb) (heeded n1394 nusb nremreq))
     (requestedAfter b (heeded n1394 nusb nremreq))
     (changedAfter b (changes n1394 nusb) (quiet b n1394 nusb))
     (controlAfter (leaves b n1394 nusb) (b .control))
     (b .pulse - 1)
+    (waitAfter ticks b (leaves b n1394 nusb) (arrives b n1394 nusb))
     (withInputs
     (b .levels)
     (n1394 .accepted ∷ nusb .accepted ∷ nremreq .accepted ∷ [])
@@ -106,5 +124,5 @@ movedBay b n1394 nusb nremreq =
     (b .«n_sl»)
     b)
 
-unfoldable pub tickedBay : Bay → Bay
-tickedBay b = movedBay b (input b N1394) (input b NUSB) (input b NREMREQ)
+unfoldable pub tickedBay : Setting → Bay → Bay
+tickedBay s b = movedBay (s .«wait_ticks») b (input b N1394) (input b NUSB) (input b NREMREQ)

@@ -1,6 +1,7 @@
--- The removal button beside a device that leaves or arrives (document 02, requests 1 and 5): a press is accepted 5 ticks after it began
--- and presence 10 ticks after, and what becomes of the bay by which of the two comes first.
-use Prim.Native.Nat.{ℕ, zero, suc, _+_, _<_}
+-- The removal button beside a device that leaves or arrives (document 02, requests 1, 5 and 6): a press is accepted 5 ticks after it
+-- began and presence 10 ticks after, a device that arrives then seats for the ticks of 42h, and what becomes of the bay by which of them
+-- comes first.
+use Prim.Native.Nat.{ℕ, zero, suc, _+_, _-_, _<_}
 use mathlib.Core.Path.{_≡_}
 use mathlib.Core.Logic.{_⊎_}
 use mathlib.Core.Bool.{Bool, true, false, not, cond, _&&_, _||_}
@@ -10,11 +11,12 @@ use Rattle.bay.specs.Debounced.{atRest, differing}
 use Rattle.bay.specs.Moves.{inUse, tickedBay}
 use Rattle.bay.specs.Happens.{line}
 use Rattle.bay.specs.declared.Bay.{Bay}
+use Rattle.bay.specs.declared.Setting.{Setting}
 
 -- A bay after so many TICKs with nothing else between them.
-unfoldable pub tickedFor : ℕ → Bay → Bay
-tickedFor zero b = b
-tickedFor (suc k) b = tickedBay (tickedFor k b)
+unfoldable pub tickedFor : Setting → ℕ → Bay → Bay
+tickedFor s zero b = b
+tickedFor s (suc k) b = tickedBay s (tickedFor s k b)
 
 -- ---- what is under way
 
@@ -59,13 +61,16 @@ pub record RemovalAndPress (p r k : ℕ) (before after : Bay) : Type 0 where
   -- From then on the bay is in Removal Requested, if it may be, until the device has left: then it is Empty.
   pub moves : after .state ≡ cond (leb 10 (p + k)) 0 (cond (leb 5 (r + k) && heeds before) 3 (before .state))
 
-pub record ArrivalAndPress (p r k : ℕ) (before after : Bay) : Type 0 where
+-- w are the ticks of 42h.
+pub record ArrivalAndPress (w p r k : ℕ) (before after : Bay) : Type 0 where
   -- The device is there from the tenth tick of its arrival on.
   pub device : present after ≡ leb 10 (p + k)
   -- The press is told from its fifth tick on, if it began 5 ticks after the arrival or later, and else never.
   pub told : after .«remreq_sts» ≡ (before .«remreq_sts» || leb 5 (r + k) && leb (r + 5) p)
-  -- With DEVSTSCHG_EN the bay is Inserted once the device is there; a press that began more than 5 ticks later moves it on, if it may.
+  -- With DEVSTSCHG_EN the device seats from then on ..
+  pub seats : after .wait ≡ cond (leb 10 (p + k) && before .control .«devstschg_en») (10 + w - (p + k)) 0
+  -- .. and once it has, the bay is Inserted. A press that is accepted in a later tick than that moves it on, if it may.
   pub moves :
       after .state
-      ≡ cond (leb 10 (p + k) && before .control .«devstschg_en»)
-      (cond (leb 5 (r + k) && ltb (r + 5) p && before .control .«remreq_en» && not (before .«remreq_sts»)) 3 1) 0
+      ≡ cond (leb (10 + w) (p + k) && before .control .«devstschg_en»)
+      (cond (leb 5 (r + k) && ltb (r + 5 + w) p && before .control .«remreq_en» && not (before .«remreq_sts»)) 3 1) 0

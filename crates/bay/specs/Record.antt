@@ -85,11 +85,12 @@ withInputs levels accepted counts nsl b =
       devstschg = b .devstschg;
       control = b .control;
       pulse = b .pulse;
+      wait = b .wait;
     }
 
--- How it stands: state, REMREQ_STS, DEVSTSCHG, BCER and pulse.
-abbrev pub withStatus : ℕ → Bool → Bool → Control → ℕ → Bay → Bay
-withStatus state req chg control pulse b =
+-- How it stands: state, REMREQ_STS, DEVSTSCHG, BCER, pulse and wait.
+abbrev pub withStatus : ℕ → Bool → Bool → Control → ℕ → ℕ → Bay → Bay
+withStatus state req chg control pulse wait b =
     record {
       levels = b .levels;
       accepted = b .accepted;
@@ -100,6 +101,7 @@ withStatus state req chg control pulse b =
       devstschg = chg;
       control = control;
       pulse = pulse;
+      wait = wait;
     }
 
 -- ---- the bays that a closing and a RESET make
@@ -129,12 +131,13 @@ noBay =
       devstschg = false;
       control = lockedControl false;
       pulse = 0;
+      wait = 0;
     }
 
 -- A bay that has just been given these levels, accepted at once, with nothing stored.
 abbrev fromLevels : Bool → Bool → Bool → Bool → Bool → Bool → Bay
 fromLevels n1394 nusb nremreq nsl chg lock =
-    withStatus EMPTY false chg (lockedControl lock) 0
+    withStatus EMPTY false chg (lockedControl lock) 0 0
     (withInputs (n1394 ∷ nusb ∷ nremreq ∷ []) (n1394 ∷ nusb ∷ nremreq ∷ []) (0 ∷ 0 ∷ 0 ∷ []) nsl noBay)
 
 -- Levels 1, the rest 0.
@@ -154,7 +157,7 @@ abbrev pub eachBelow : ℕ → (ℕ → Bool) → Bool
 eachBelow zero test = true
 eachBelow (suc n) test = eachBelow n test && test n
 
--- .. bay state 0-4, stored request 0-4, pulse 0-200.
+-- .. bay state 0-4, stored request 0-4, pulse 0-200; any wait is fit.
 unfoldable pub bayFit : Bay → Bool
 bayFit b =
     eachBelow INPUTS (countFits (b .counts)) && leb (b .state) REMOVAL-ALLOWED && leb (b .control .request) REMOVAL-ALLOWED

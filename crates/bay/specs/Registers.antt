@@ -1,12 +1,13 @@
 -- A bay's two registers (document 01, "Registers"): BSTR and BCER as they read, and what a write does.
 use Prim.Native.Nat.{ℕ, _+_, _*_, _/_, _%_}
-use mathlib.Core.Bool.{Bool, not, cond, _&&_}
+use mathlib.Core.Bool.{Bool, not, cond, _&&_, _||_}
 use lib.Dec.{eqb, ltb, leb}
 use Rattle.bits.specs.Bits.{bit, put}
 use Rattle.bay.specs.Record.{N1394, NUSB, acceptedLevel, present, EMPTY, INSERTED, REMOVAL-REQUESTED, REMOVAL-ALLOWED, withStatus}
-use Rattle.bay.specs.Moves.{inUse}
+use Rattle.bay.specs.Moves.{inUse, begun}
 use Rattle.bay.specs.declared.Bay.{Bay}
 use Rattle.bay.specs.declared.Control.{Control}
+use Rattle.bay.specs.declared.Setting.{Setting}
 
 -- BSTR: bit 7 inverse of nSL as last sampled; 6-4 bay state; 3 REMREQ_STS; 2 DEVSTSCHG; 1 and 0 accepted 1394 and USB presence.
 unfoldable pub bstrOf : Bay → ℕ
@@ -22,7 +23,7 @@ bcerOf b =
 
 -- BSTR: writing 1 to bit 3 or 2 clears it; other bits are ignored.
 unfoldable pub bstrWritten : ℕ → Bay → Bay
-bstrWritten v b = withStatus (b .state) (b .«remreq_sts» && not (bit 3 v)) (b .devstschg && not (bit 2 v)) (b .control) (b .pulse) b
+bstrWritten v b = withStatus (b .state) (b .«remreq_sts» && not (bit 3 v)) (b .devstschg && not (bit 2 v)) (b .control) (b .pulse) (b .wait) b
 
 -- A byte written to BCER, by its fields.
 unfoldable pub controlOf : ℕ → Control
@@ -55,25 +56,36 @@ controlWritten c device old =
       «pwr_ctl» = c .«pwr_ctl» && c .«lock_ctl» && device;
     }
 
+-- DEVSTSCHG_EN from 0 to 1 in Empty with a device.
+unfoldable pub finds : Control → Bool → Bay → Bool
+finds c device b = c .«devstschg_en» && not (b .control .«devstschg_en») && eqb (b .state) EMPTY && device
+
 -- A write makes at most one move, the first that applies: request 1-4 with a device present, to that state; DEVSTSCHG_EN from 0
--- to 1 in Empty with a device, to Inserted; REMREQ_EN from 0 to 1 with REMREQ_STS set in Inserted or Enabled, to Removal Requested.
-unfoldable pub stateWritten : Control → Bool → Bay → ℕ
-stateWritten c device b =
+-- to 1 in Empty with a device, to Inserted if 42h is 0; REMREQ_EN from 0 to 1 with REMREQ_STS set in Inserted or Enabled, to Removal
+-- Requested.
+unfoldable pub stateWritten : ℕ → Control → Bool → Bay → ℕ
+stateWritten ticks c device b =
     cond (asks c && device) (c .request)
-    (cond (c .«devstschg_en» && not (b .control .«devstschg_en») && eqb (b .state) EMPTY && device) INSERTED
+    (cond (finds c device b && eqb ticks 0) INSERTED
     (cond (c .«remreq_en» && not (b .control .«remreq_en») && b .«remreq_sts» && inUse b) REMOVAL-REQUESTED (b .state)))
+
+-- DEVSTSCHG_EN written 0, or request 1-4 with a device present, ends a wait; else DEVSTSCHG_EN from 0 to 1 in Empty with a device begins
+-- one (document 02, request 6).
+unfoldable pub waitWritten : ℕ → Control → Bool → Bay → ℕ
+waitWritten ticks c device b = cond (not (c .«devstschg_en») || asks c && device) 0 (cond (finds c device b) (begun ticks (b .wait)) (b .wait))
 
 -- In LOCK_MODE 1 only, LOCK_CTL written from 1 to 0 starts a pulse with LETR's ticks, and another restarts it.
 unfoldable pub pulseWritten : Control → Bool → ℕ → Bay → ℕ
 pulseWritten c mode ticks b = cond (mode && b .control .«lock_ctl» && not (c .«lock_ctl»)) ticks (b .pulse)
 
--- A write of BCER's fields, in a LOCK_MODE and with LETR's ticks.
-unfoldable pub controlledBay : Control → Bool → ℕ → Bay → Bay
-controlledBay c mode ticks b =
+-- A write of BCER's fields, in a LOCK_MODE and with the ticks of LETR and of 42h.
+unfoldable pub controlledBay : Control → Setting → Bay → Bay
+controlledBay c s b =
     withStatus
-    (stateWritten c (present b) b)
+    (stateWritten (s .«wait_ticks») c (present b) b)
     (b .«remreq_sts»)
     (b .devstschg)
     (controlWritten c (present b) (b .control))
-    (pulseWritten c mode ticks b)
+    (pulseWritten c (s .«lock_mode») (s .«pulse_ticks») b)
+    (waitWritten (s .«wait_ticks») c (present b) b)
     b

@@ -1,8 +1,8 @@
 -- What is true of every bay that RESET has made and events have changed, beyond its numbers being fit (document 01, "Registers"
 -- and "Bay moves").
-use Prim.Native.Nat.{ℕ}
+use Prim.Native.Nat.{ℕ, _<_}
 use mathlib.Core.Path.{_≡_}
-use mathlib.Core.Logic.{_≢_}
+use mathlib.Core.Logic.{_≢_, _⊎_}
 use mathlib.Core.Bool.{true, false}
 use Rattle.bay.specs.Record.{level, acceptedLevel, count, present, EMPTY}
 use Rattle.bay.specs.declared.Bay.{Bay}
@@ -12,7 +12,9 @@ pub record Sound (b : Bay) : Type 0 where
   pub powered : b .control .«pwr_ctl» ≡ true → (b .control .«lock_ctl» ≡ true) × (present b ≡ true)
   -- A bay that isn't Empty holds a device.
   pub held : b .state ≢ EMPTY → present b ≡ true
-  -- A device waits in Empty only while DEVSTSCHG_EN is clear.
-  pub waiting : present b ≡ true → b .state ≡ EMPTY → b .control .«devstschg_en» ≡ false
+  -- A device stays in Empty only while DEVSTSCHG_EN is clear or a wait runs.
+  pub waiting : present b ≡ true → b .state ≡ EMPTY → (b .control .«devstschg_en» ≡ false) ⊎ (0 < b .wait)
+  -- A wait runs only in Empty, over a device, with DEVSTSCHG_EN set.
+  pub seating : 0 < b .wait → (b .state ≡ EMPTY) × (present b ≡ true) × (b .control .«devstschg_en» ≡ true)
   -- The count of an input is 0 where its level is the accepted one.
   pub still : (i : ℕ) → level b i ≡ acceptedLevel b i → count b i ≡ 0

@@ -10,6 +10,7 @@ use Rattle.bits.specs.Bits.{bit}
 use Rattle.bay.specs.Record.{NREMREQ, acceptedLevel, present}
 use Rattle.bay.specs.Moves.{tickedBay}
 use Rattle.bay.specs.declared.Bay.{Bay}
+use Rattle.bay.specs.declared.Setting.{Setting}
 
 -- A row for each state from, with a test for each state to: Empty, Inserted, Enabled, Removal Requested, Removal Allowed.
 abbrev pub Table : Type 0
@@ -24,26 +25,34 @@ never = false
 -- ---- a TICK
 
 -- The device leaves.
-abbrev pub gone : Bay → Bool
-gone b = present b && not (present (tickedBay b))
+abbrev pub gone : Setting → Bay → Bool
+gone s b = present b && not (present (tickedBay s b))
 
--- A device arrives with DEVSTSCHG_EN set.
-abbrev pub come : Bay → Bool
-come b = not (present b) && present (tickedBay b) && b .control .«devstschg_en»
+-- A device arrives with DEVSTSCHG_EN set: the bay takes notice of it ..
+abbrev pub noticed : Setting → Bay → Bool
+noticed s b = not (present b) && present (tickedBay s b) && b .control .«devstschg_en»
+
+-- .. at once, where 42h is 0.
+abbrev pub come : Setting → Bay → Bool
+come s b = noticed s b && eqb (s .«wait_ticks») 0
+
+-- A wait falls to 0, and the device neither leaves nor comes in this TICK.
+abbrev pub seated : Setting → Bay → Bool
+seated s b = not (gone s b) && not (noticed s b) && eqb (b .wait) 1
 
 -- The button is pressed over a device: nREMREQ as accepted goes from 1 to 0, and a device is present afterwards.
 abbrev pub pressOver : Bay → Bay → Bool
 pressOver before after = acceptedLevel before NREMREQ && not (acceptedLevel after NREMREQ) && present after
 
--- Neither gone nor come, and a press over a device with REMREQ_EN set and REMREQ_STS clear.
-abbrev pub press : Bay → Bool
-press b = not (gone b) && not (come b) && pressOver b (tickedBay b) && b .control .«remreq_en» && not (b .«remreq_sts»)
+-- None of these, and a press over a device with REMREQ_EN set and REMREQ_STS clear.
+abbrev pub press : Setting → Bay → Bool
+press s b = not (gone s b) && not (come s b) && not (seated s b) && pressOver b (tickedBay s b) && b .control .«remreq_en» && not (b .«remreq_sts»)
 
--- None of these.
-abbrev pub calm : Bay → Bool
-calm b = not (gone b) && not (come b) && not (press b)
+-- Nor that.
+abbrev pub calm : Setting → Bay → Bool
+calm s b = not (gone s b) && not (come s b) && not (seated s b) && not (press s b)
 
--- G gone, C come, P press, N none of these.
+-- G gone, C come or seated, P press, N none of these.
 abbrev pub tickRows : Bool → Bool → Bool → Bool → Table
 tickRows G C P N =
     ((G || P || N) ∷ C ∷ never ∷ never ∷ never ∷ [])
@@ -53,8 +62,8 @@ tickRows G C P N =
     ∷ (G ∷ C ∷ never ∷ never ∷ (P || N) ∷ [])
     ∷ []
 
-unfoldable pub tickTable : Bay → Table
-tickTable b = tickRows (gone b) (come b) (press b) (calm b)
+unfoldable pub tickTable : Setting → Bay → Table
+tickTable s b = tickRows (gone s b) (come s b || seated s b) (press s b) (calm s b)
 
 -- ---- a write of BCER
 
@@ -66,9 +75,9 @@ asksFor v b state = present b && eqb (v / 16 % 8) state
 abbrev pub asksNothing : ℕ → Bay → Bool
 asksNothing v b = not (asksFor v b 1) && not (asksFor v b 2) && not (asksFor v b 3) && not (asksFor v b 4)
 
--- It asks for nothing and brings DEVSTSCHG_EN, bit 2, from 0 to 1 with a device present.
-abbrev pub finds : ℕ → Bay → Bool
-finds v b = asksNothing v b && bit 2 v && not (b .control .«devstschg_en») && present b
+-- It asks for nothing and brings DEVSTSCHG_EN, bit 2, from 0 to 1 with a device present, which needn't wait: 42h is 0.
+abbrev pub finds : ℕ → Setting → Bay → Bool
+finds v s b = asksNothing v b && bit 2 v && not (b .control .«devstschg_en») && present b && eqb (s .«wait_ticks») 0
 
 -- It asks for nothing and brings REMREQ_EN, bit 3, from 0 to 1 with REMREQ_STS set.
 abbrev pub recalls : ℕ → Bay → Bool
@@ -84,5 +93,5 @@ writeRows A N F R =
     ∷ (never ∷ A 1 ∷ A 2 ∷ A 3 ∷ (A 4 || N) ∷ [])
     ∷ []
 
-unfoldable pub writeTable : ℕ → Bay → Table
-writeTable v b = writeRows (asksFor v b) (asksNothing v b) (finds v b) (recalls v b)
+unfoldable pub writeTable : ℕ → Setting → Bay → Table
+writeTable v s b = writeRows (asksFor v b) (asksNothing v b) (finds v s b) (recalls v b)

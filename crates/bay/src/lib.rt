@@ -23,6 +23,8 @@ pub struct Bay {
     pub control: Control,
     // For how many ticks more the lock pin is held low.
     pub pulse: u8,
+    // For how many ticks more a device seats before the bay is Inserted.
+    pub wait: u8,
 }
 
 impl Bay {
@@ -61,6 +63,15 @@ pub struct Control {
     pub devstschg_en: bool,
     pub remevtwak_en: bool,
     pub pwr_ctl: bool,
+}
+
+// What the registers that the bays share, and the straps, make of a bay's rules.
+pub struct Setting {
+    pub lock_mode: bool,
+    // LETR's ticks, for which a pulse runs.
+    pub pulse_ticks: u8,
+    // 42h, the ticks for which a device seats.
+    pub wait_ticks: u8,
 }
 
 // One input after a TICK.

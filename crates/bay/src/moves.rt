@@ -3,10 +3,11 @@ ghost use mathlib.Core.Path.{_≡_};
 ghost use mathlib.Core.Bool.{true, false};
 ghost use Prim.Native.Nat.{_-_};
 ghost use Rattle.bay.specs.Record.{present as Record·present};
-ghost use Rattle.bay.specs.Moves.{tickedBay, movedBay, stateAfter, controlAfter, inUse};
+ghost use Rattle.bay.specs.Moves.{tickedBay, movedBay, begun, waitAfter, inserts, stateAfter, controlAfter, inUse};
 use crate::Bay;
 use crate::Control;
 use crate::Input;
+use crate::Setting;
 use crate::debounce::debounced;
 use crate::debounce::ticks_for;
 
@@ -26,11 +27,33 @@ impl Bay {
         (self.state == Bay::INSERTED) | (self.state == Bay::ENABLED)
     }
 
-    // The one move of a TICK in which no device leaves.
-    fn state_after(self, arrives: bool, heeded: bool) -> u8
-        ensures { λ r. ⌜ r ≡ stateAfter self false arrives heeded ⌝ }
+    // The wait after a TICK in which no device leaves.
+    fn wait_after(self, ticks: u8, arrives: bool) -> u8
+        ensures { λ r. ⌜ r ≡ waitAfter ticks self false arrives ⌝ }
     {
         if arrives & self.control.devstschg_en {
+            begun(ticks, self.wait)
+        } else {
+            fallen(self.wait)
+        }
+    }
+
+    // Such a TICK makes the bay Inserted: by an arrival that needn't wait, or else as the wait's last tick falls.
+    fn inserts(self, ticks: u8, arrives: bool) -> bool
+        ensures { λ r. ⌜ r ≡ inserts ticks self arrives ⌝ }
+    {
+        if arrives & self.control.devstschg_en {
+            ticks == 0
+        } else {
+            self.wait == 1
+        }
+    }
+
+    // The one move of such a TICK.
+    fn state_after(self, ticks: u8, arrives: bool, heeded: bool) -> u8
+        ensures { λ r. ⌜ r ≡ stateAfter ticks self false arrives heeded ⌝ }
+    {
+        if self.inserts(ticks, arrives) {
             return Bay::INSERTED;
         }
         if heeded & self.control.remreq_en & !self.remreq_sts & self.in_use() {
@@ -40,8 +63,8 @@ impl Bay {
     }
 
     // What the inputs of a TICK make of the bay. A press is heeded only over a device, so not as one leaves.
-    fn moved(mut self, n1394: Input, nusb: Input, nremreq: Input) -> Bay
-        ensures { λ r. ⌜ r ≡ movedBay self n1394 nusb nremreq ⌝ }
+    fn moved(mut self, ticks: u8, n1394: Input, nusb: Input, nremreq: Input) -> Bay
+        ensures { λ r. ⌜ r ≡ movedBay ticks self n1394 nusb nremreq ⌝ }
     {
         let before = self.present();
         let after = !n1394.accepted | !nusb.accepted;
@@ -55,25 +78,30 @@ impl Bay {
             self.state = Bay::EMPTY;
             self.devstschg = self.devstschg | (changed & !quiet);
             self.control = self.control.released();
+            self.wait = 0;
             return self;
         }
-        let state = self.state_after(!before & after, heeded);
+        let arrives = !before & after;
+        let state = self.state_after(ticks, arrives, heeded);
+        let wait = self.wait_after(ticks, arrives);
         self.state = state;
+        self.wait = wait;
         self.remreq_sts = self.remreq_sts | heeded;
         self.devstschg = self.devstschg | changed;
         self
     }
 
-    // A TICK. Where every level is the accepted one, as in most ticks, only the pulse falls.
-    pub fn ticked(mut self) -> Bay
-        ensures { λ r. ⌜ r ≡ tickedBay self ⌝ }
+    // A TICK. Where every level is the accepted one and no device seats, as in most ticks, only the pulse falls.
+    pub fn ticked(mut self, setting: Setting) -> Bay
+        ensures { λ r. ⌜ r ≡ tickedBay setting self ⌝ }
     {
         let levels = self.levels;
         let accepted = self.accepted;
         let counts = self.counts;
         let steady = (levels[Bay::N1394] == accepted[Bay::N1394])
             & (levels[Bay::NUSB] == accepted[Bay::NUSB])
-            & (levels[Bay::NREMREQ] == accepted[Bay::NREMREQ]);
+            & (levels[Bay::NREMREQ] == accepted[Bay::NREMREQ])
+            & (self.wait == 0);
         if steady {
             self.pulse = fallen(self.pulse);
             return self;
@@ -96,7 +124,7 @@ impl Bay {
             accepted[Bay::NREMREQ],
             counts[Bay::NREMREQ],
         );
-        self.moved(n1394, nusb, nremreq)
+        self.moved(setting.wait_ticks, n1394, nusb, nremreq)
     }
 }
 
@@ -111,9 +139,16 @@ impl Control {
     }
 }
 
-// A pulse above 0 falls by one.
-fn fallen(pulse: u8) -> u8
-    ensures { λ r. ⌜ r ≡ pulse - 1 ⌝ }
+// A pulse or a wait above 0 falls by one.
+fn fallen(ticks: u8) -> u8
+    ensures { λ r. ⌜ r ≡ ticks - 1 ⌝ }
 {
-    if pulse == 0 { 0 } else { pulse - 1 }
+    if ticks == 0 { 0 } else { ticks - 1 }
+}
+
+// A wait begins with the ticks that 42h has; with 0 none begins.
+pub(crate) fn begun(ticks: u8, wait: u8) -> u8
+    ensures { λ r. ⌜ r ≡ begun ticks wait ⌝ }
+{
+    if ticks == 0 { wait } else { ticks }
 }

@@ -37,6 +37,7 @@ impl Bay {
             devstschg: false,
             control: Control::locked(false),
             pulse: 0,
+            wait: 0,
         }
     }
 
@@ -57,6 +58,7 @@ impl Bay {
             devstschg: !n1394 | !nusb,
             control: Control::locked(lock_ctl),
             pulse: 0,
+            wait: 0,
         }
     }
 

@@ -1,8 +1,10 @@
 // A bay's two registers (document 01, "Registers"): BSTR and BCER as they read, and what a write does.
 ghost use mathlib.Core.Path.{_≡_};
-ghost use Rattle.bay.specs.Registers.{bstrOf, bcerOf, bstrWritten, controlOf, asks, stateWritten, requestWritten, controlWritten, pulseWritten, controlledBay};
+ghost use Rattle.bay.specs.Registers.{bstrOf, bcerOf, bstrWritten, controlOf, asks, finds, stateWritten, waitWritten, requestWritten, controlWritten, pulseWritten, controlledBay};
 use crate::Bay;
 use crate::Control;
+use crate::Setting;
+use crate::moves::begun;
 use bits::has;
 use bits::put;
 
@@ -41,20 +43,41 @@ impl Bay {
         self
     }
 
+    // The write brings DEVSTSCHG_EN from 0 to 1 in Empty, with a device.
+    fn finds(self, c: Control, present: bool) -> bool
+        ensures { λ r. ⌜ r ≡ finds c present self ⌝ }
+    {
+        c.devstschg_en & !self.control.devstschg_en & (self.state == Bay::EMPTY) & present
+    }
+
     // The state after a write: the first move that applies.
-    fn state_written(self, c: Control, present: bool) -> u8
-        ensures { λ r. ⌜ r ≡ stateWritten c present self ⌝ }
+    fn state_written(self, c: Control, present: bool, ticks: u8) -> u8
+        ensures { λ r. ⌜ r ≡ stateWritten ticks c present self ⌝ }
     {
         if c.asks() & present {
             return c.request;
         }
-        if c.devstschg_en & !self.control.devstschg_en & (self.state == Bay::EMPTY) & present {
+        if self.finds(c, present) & (ticks == 0) {
             return Bay::INSERTED;
         }
         if c.remreq_en & !self.control.remreq_en & self.remreq_sts & self.in_use() {
             return Bay::REMOVAL_REQUESTED;
         }
         self.state
+    }
+
+    // The wait after a write: DEVSTSCHG_EN written 0 or a request over a device ends it, and a device that is found begins one.
+    fn wait_written(self, c: Control, present: bool, ticks: u8) -> u8
+        ensures { λ r. ⌜ r ≡ waitWritten ticks c present self ⌝ }
+    {
+        if !c.devstschg_en | (c.asks() & present) {
+            return 0;
+        }
+        if self.finds(c, present) {
+            begun(ticks, self.wait)
+        } else {
+            self.wait
+        }
     }
 
     // In LOCK_MODE 1, LOCK_CTL from 1 to 0 starts a pulse of `ticks`.
@@ -69,16 +92,18 @@ impl Bay {
     }
 
     // What a driver's write does.
-    pub fn controlled(mut self, c: Control, lock_mode: bool, ticks: u8) -> Bay
-        ensures { λ r. ⌜ r ≡ controlledBay c «lock_mode» ticks self ⌝ }
+    pub fn controlled(mut self, c: Control, setting: Setting) -> Bay
+        ensures { λ r. ⌜ r ≡ controlledBay c setting self ⌝ }
     {
         let present = self.present();
-        let state = self.state_written(c, present);
+        let state = self.state_written(c, present, setting.wait_ticks);
         let control = self.control.written(c, present);
-        let pulse = self.pulse_written(c, lock_mode, ticks);
+        let pulse = self.pulse_written(c, setting.lock_mode, setting.pulse_ticks);
+        let wait = self.wait_written(c, present, setting.wait_ticks);
         self.state = state;
         self.control = control;
         self.pulse = pulse;
+        self.wait = wait;
         self
     }
 }

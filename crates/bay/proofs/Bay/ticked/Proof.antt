@@ -1,4 +1,4 @@
--- `bay::Bay::ticked` meets its contract: of a steady bay only the pulse falls; of another the three inputs are what `debounced`
+-- `bay::Bay::ticked` meets its contract: of a steady bay in which no wait runs only the pulse falls; of another the three inputs are what `debounced`
 -- ensures, over the ticks that `ticks_for` ensures. Assumes nothing.
 use mathlib.Core.Path.{_≡_, _∙_}
 use lib.ListN.{length}
@@ -10,10 +10,11 @@ use Rattle.bay.proofs.Bay.ticked.Tie as tie
 
 returns : tie.Need-returns
 returns c =
-    let b = c .before .before .before .before .before .args .self in
+    let a = c .before .before .before .before .before .before .args in
+    let b = a .self in
     let la : length (b .accepted) ≡ 3 = search needs in
     let lc : length (b .counts) ≡ 3 = search needs in
-    rw (steady b la lc (c .before .if1 .taken), c .fallen .ensures)
+    rw (steady (a .setting) b la lc (c .before .if1 .taken), c .fallen .ensures)
 
 returns-2 : tie.Need-returns-2
 unfolding tickedBay
