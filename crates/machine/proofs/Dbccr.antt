@@ -1,17 +1,18 @@
 -- DBCCR (document 01, "Registers"): only the first write after a RESET counts, and count 1 closes bay 1. By cases on the address
 -- that is written. Assumes nothing.
 use Prim.Native.Nat.{ℕ}
-use mathlib.Core.Path.{_≡_, refl}
+use mathlib.Core.Path.{_≡_, refl, sym, subst, _∙_}
 use mathlib.Core.Logic.{_↔_}
-use mathlib.Core.Bool.{true, false}
+use mathlib.Core.Bool.{true, false, not, _&&_, and-eq-true-iff, true≢false}
 use lib.Dec.{eqb}
-use borrow.Author.Tests.{eqb-true, not-false}
+use borrow.Author.Tests.{eqb-true, not-true, not-false}
 use Rattle.bay.proofs.Taut.{pick}
 use Rattle.machine.specs.Record.{isOpen, openBy}
-use Rattle.machine.specs.Registers.{dbccrStored, dbccrWrite, letrWrite, bstrWrite, bcerWrite, written, writes}
+use Rattle.machine.specs.Registers.{dbccrStored, dbccrWrite, written, writes}
+use Rattle.machine.specs.After.{sharedWritten}
 use Rattle.machine.specs.declared.Machine.{Machine}
-use Rattle.machine.proofs.Choice.{chosen}
-use Rattle.machine.proofs.Addresses.{by-address}
+use Rattle.machine.specs.declared.Shared.{Shared}
+use Rattle.machine.proofs.After.{written-shared}
 
 -- Bay 1 is closed exactly while the stored count is 1.
 pub closed-exactly : (m : Machine) → (isOpen m 1 ≡ false) ↔ (m .shared .«bay_count» ≡ 1)
@@ -30,11 +31,17 @@ pub record DbccrKept (before after : Machine) : Type 0 where
   pub bay-count : after .shared .«bay_count» ≡ before .shared .«bay_count»
 
 pub dbccr-once : (a v : ℕ) (m : Machine) → m .shared .«dbccr_written» ≡ true → DbccrKept m (written a v m)
-unfolding dbccrWrite letrWrite bstrWrite bcerWrite
+unfolding sharedWritten
 dbccr-once a v m d =
-    by-address (DbccrKept m) a v m (rw (chosen d) same) (record { marked = d; seclock = refl; bay-count = refl })
-    (λ i. pick (DbccrKept m) (isOpen m i) (λ o. record { marked = d; seclock = refl; bay-count = refl }) (λ o. same))
-    (λ i. pick (DbccrKept m) (isOpen m i) (λ o. record { marked = d; seclock = refl; bay-count = refl }) (λ o. same)) same
+    let kept =
+    subst P (sym (written-shared a v m))
+    (pick P (eqb a 0x0C && not (m .shared .«dbccr_written»)) (λ h. absurd (true≢false (sym d ∙ not-true _ (and-eq-true-iff (eqb a 0x0C) _ .0 h .1))))
+    (λ _. pick P (eqb a 0x40) (λ _. same) (λ _. pick P (eqb a 0x42) (λ _. same) (λ _. same))))
+    in
+    record { marked = kept .0; seclock = kept .1; bay-count = kept .2 }
   where
-    same : DbccrKept m m
-    same = record { marked = d; seclock = refl; bay-count = refl }
+    P : Shared → Type 0
+    P r = (r .«dbccr_written» ≡ true) × (r .seclock ≡ m .shared .seclock) × (r .«bay_count» ≡ m .shared .«bay_count»)
+
+    same : P (m .shared)
+    same = (d, refl, refl)

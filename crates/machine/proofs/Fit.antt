@@ -1,24 +1,28 @@
 -- A fit machine stays fit, whatever word comes: the parts of fitness are taken apart, each rule keeps them, and they are put
 -- together again. Assumes nothing.
-use Prim.Native.Nat.{ℕ, zero, suc, _%_, _-_, _<_, _≤_}
+use Prim.Native.Nat.{ℕ, zero, suc, _-_, _<_, _≤_}
 use native.Mathlib.Omega.{arith}
-use mathlib.Core.Path.{_≡_}
+use mathlib.Core.Path.{_≡_, sym, subst}
 use mathlib.Core.Logic.{_↔_}
-use mathlib.Core.Bool.{Bool, true, and-eq-true-iff}
+use mathlib.Core.Bool.{Bool, true, not, _&&_, and-eq-true-iff}
 use lib.Dec.{eqb, ltb}
 use borrow.Author.Tests.{lt-ltb, le-leb, ltb-true, leb-true}
 use Rattle.bits.specs.Straps.{MOST-STRAPS}
-use Rattle.bay.specs.declared.Bay.{Bay}
 use Rattle.bay.specs.Record.{MOST-PULSE, bayFit}
 use Rattle.bay.proofs.Taut.{pick}
 use Rattle.bay.proofs.Fit.{empty-fit, reset-fit, sampled-fit, ticked-fit, bstr-written-fit, controlled-fit}
-use Rattle.machine.specs.Record.{PHASES, ONE-BAY, bayAt, bayIn, placed, withBay, fits, isOpen, freshMachine}
-use Rattle.machine.specs.Registers.{pulseTicks, dbccrStored, dbccrWrite, letrWrite, bstrWrite, bcerWrite, written}
-use Rattle.machine.specs.Acts.{resetTo, sampledAt, tickedAt, pinsTo, nextPhase, tickTo}
+use Rattle.machine.specs.Record.{PHASES, bayAt, bayIn, fits, freshMachine}
+use Rattle.machine.specs.Registers.{pulseTicks, settingOf, written}
+use Rattle.machine.specs.Acts.{resetTo, pinsTo, nextPhase, tickTo, does}
+use Rattle.machine.specs.After.{sharedWritten}
 use Rattle.machine.specs.Kept.{Kept}
 use Rattle.machine.specs.declared.Machine.{Machine}
-use Rattle.machine.proofs.Bays.{each, put-each}
-use Rattle.machine.proofs.Addresses.{by-address}
+use Rattle.machine.specs.declared.Shared.{Shared}
+use Rattle.machine.specs.declared.Act.{Act}
+use Rattle.machine.specs.declared.Act.the-variants.{Write, Pins, Tick}
+use Rattle.machine.proofs.Bays.{each}
+use Rattle.machine.proofs.Addresses.{write-steady}
+use Rattle.machine.proofs.After.{written-shared, after-act}
 
 -- Fitness, part by part, in the paper's numbers.
 pub record Fits (m : Machine) : Type 0 where
@@ -77,38 +81,6 @@ phase-on : (p : ℕ) → p < PHASES → nextPhase p < PHASES
 unfolding nextPhase
 phase-on p h = pick (λ n. n < PHASES) (ltb p (PHASES - 1)) (λ l. omega (arith, ltb-true p (PHASES - 1) l)) (λ l. omega arith)
 
-sampled-at : (m : Machine) (i levels : ℕ) → bayFit (bayAt m i) ≡ true → bayFit (sampledAt m i levels) ≡ true
-unfolding sampledAt
-sampled-at m i levels h = pick (λ b. bayFit b ≡ true) (isOpen m i) (λ o. sampled-fit levels (bayAt m i) h) (λ o. h)
-
-ticked-at : (m : Machine) (i : ℕ) → bayFit (bayAt m i) ≡ true → bayFit (tickedAt m i) ≡ true
-unfolding tickedAt
-ticked-at m i h = pick (λ b. bayFit b ≡ true) (isOpen m i) (λ o. ticked-fit (bayAt m i) h) (λ o. h)
-
-pins-parts : (levels : ℕ) (m : Machine) → Fits m → Fits (pinsTo levels m)
-unfolding pinsTo bayIn
-pins-parts levels m f =
-    record {
-      phase = f .phase;
-      straps = f .straps;
-      lock-time = f .lock-time;
-      bay-count = f .bay-count;
-      bays = both (pinsTo levels m) (sampled-at m 0 _ (f .bays 0)) (sampled-at m 1 _ (f .bays 1));
-    }
-
-tick-parts : (m : Machine) → Fits m → Fits (tickTo m)
-unfolding tickTo bayIn
-tick-parts m f =
-    record {
-      phase = phase-on (m .phase) (f .phase);
-      straps = f .straps;
-      lock-time = f .lock-time;
-      bay-count = f .bay-count;
-      bays = both (tickTo m) (ticked-at m 0 (f .bays 0)) (ticked-at m 1 (f .bays 1));
-    }
-
--- ---- writes
-
 pub ticks-most : (t : ℕ) → pulseTicks t ≤ MOST-PULSE
 unfolding pulseTicks
 ticks-most zero = omega arith
@@ -116,48 +88,55 @@ ticks-most (suc zero) = omega arith
 ticks-most (suc (suc zero)) = omega arith
 ticks-most (suc (suc (suc t))) = omega arith
 
-with-bay : (i : ℕ) (b : Bay) (m : Machine) → bayFit b ≡ true → Fits m → Fits (withBay i b m)
-unfolding placed
-with-bay i b m h f =
+-- Each bay, at every act.
+bays-fit : (a : Act) (m : Machine) → Fits m → (i : ℕ) → bayFit (bayAt (does a m) i) ≡ true
+unfolding settingOf
+bays-fit a m f i =
+    let fit = f .bays i in
+    after-act (λ b. bayFit b ≡ true) m i reset-fit empty-fit (λ levels. sampled-fit levels (bayAt m i) fit) (ticked-fit (settingOf m) (bayAt m i) fit)
+    (λ v. bstr-written-fit v (bayAt m i) fit) (λ v. controlled-fit _ (settingOf m) (bayAt m i) (ticks-most (m .shared .«lock_time»)) fit) fit a
+
+pins-parts : (levels : ℕ) (m : Machine) → Fits m → Fits (pinsTo levels m)
+unfolding does pinsTo
+pins-parts levels m f =
+    record { phase = f .phase; straps = f .straps; lock-time = f .lock-time; bay-count = f .bay-count; bays = bays-fit (Pins levels) m f }
+
+tick-parts : (m : Machine) → Fits m → Fits (tickTo m)
+unfolding does tickTo
+tick-parts m f =
     record {
-      phase = f .phase;
+      phase = phase-on (m .phase) (f .phase);
       straps = f .straps;
       lock-time = f .lock-time;
       bay-count = f .bay-count;
-      bays = λ j. put-each (λ x. bayFit x ≡ true) i b (m .bays) h j (f .bays j);
+      bays = bays-fit Tick m f;
     }
 
-stored-parts : (v : ℕ) (m : Machine) → Fits m → Fits (dbccrStored v m)
-unfolding dbccrStored bayIn
-stored-parts v m f =
-    record {
-      phase = f .phase;
-      straps = f .straps;
-      lock-time = f .lock-time;
-      bay-count = omega arith;
-      bays = both (dbccrStored v m) (f .bays 0) (pick (λ b. bayFit b ≡ true) (eqb (v % 4) ONE-BAY) (λ e. empty-fit) (λ e. f .bays 1));
-    }
+-- ---- a write
 
-dbccr-parts : (v : ℕ) (m : Machine) → Fits m → Fits (dbccrWrite v m)
-unfolding dbccrWrite
-dbccr-parts v m f = pick Fits (m .shared .«dbccr_written») (λ d. f) (λ d. stored-parts v m f)
+abbrev SharedFits : Shared → Type 0
+SharedFits r = (r .«lock_time» ≤ 3) × (r .«bay_count» ≤ 3)
 
-letr-parts : (v : ℕ) (m : Machine) → Fits m → Fits (letrWrite v m)
-unfolding letrWrite bayIn
-letr-parts v m f =
-    record { phase = f .phase; straps = f .straps; lock-time = omega arith; bay-count = f .bay-count; bays = f .bays }
-
-bstr-parts : (i v : ℕ) (m : Machine) → Fits m → Fits (bstrWrite i v m)
-unfolding bstrWrite
-bstr-parts i v m f = pick Fits (isOpen m i) (λ o. with-bay i _ m (bstr-written-fit v (bayAt m i) (f .bays i)) f) (λ o. f)
-
-bcer-parts : (i v : ℕ) (m : Machine) → Fits m → Fits (bcerWrite i v m)
-unfolding bcerWrite
-bcer-parts i v m f =
-    pick Fits (isOpen m i) (λ o. with-bay i _ m (controlled-fit _ _ _ (bayAt m i) (ticks-most (m .shared .«lock_time»)) (f .bays i)) f) (λ o. f)
+shared-parts : (a v : ℕ) (m : Machine) → Fits m → SharedFits (written a v m .shared)
+unfolding sharedWritten
+shared-parts a v m f =
+    subst SharedFits (sym (written-shared a v m))
+    (pick SharedFits (eqb a 0x0C && not (m .shared .«dbccr_written»)) (λ _. (f .lock-time, omega arith))
+    (λ _. pick SharedFits (eqb a 0x40) (λ _. (omega arith, f .bay-count))
+    (λ _. pick SharedFits (eqb a 0x42) (λ _. (f .lock-time, f .bay-count)) (λ _. (f .lock-time, f .bay-count)))))
 
 written-parts : (a v : ℕ) (m : Machine) → Fits m → Fits (written a v m)
-written-parts a v m f = by-address Fits a v m (dbccr-parts v m f) (letr-parts v m f) (λ i. bstr-parts i v m f) (λ i. bcer-parts i v m f) f
+unfolding does
+written-parts a v m f =
+    let same = write-steady a v m in
+    let shared = shared-parts a v m f in
+    record {
+      phase = omega (arith, same .phase, f .phase);
+      straps = omega (arith, same .straps, f .straps);
+      lock-time = shared .0;
+      bay-count = shared .1;
+      bays = bays-fit (Write a v) m f;
+    }
 
 -- Fitness is kept by every rule, and a RESET makes it.
 pub fits-kept : Kept (λ m. fits m ≡ true)

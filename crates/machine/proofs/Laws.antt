@@ -2,8 +2,7 @@
 use Prim.Native.Nat.{ℕ}
 use mathlib.Core.Path.{_≡_, refl}
 use mathlib.Core.Logic.{_↔_}
-use mathlib.Core.Bool.{Bool, true, false, not, cond}
-use lib.Dec.{eqb}
+use mathlib.Core.Bool.{Bool, true, false, cond}
 use Rattle.bits.specs.Bits.{bit}
 use Rattle.bay.specs.declared.Bay.{Bay}
 use Rattle.bay.specs.Record.{present, ENABLED}
@@ -12,11 +11,13 @@ use Rattle.bay.proofs.Taut.{pick}
 use Rattle.bay.proofs.Laws.{power-needs-lock-and-device, enabled-keeps-power}
 use Rattle.machine.specs.Record.{bayAt, bayIn, isOpen, fits, freshMachine}
 use Rattle.machine.specs.Outputs.{nibble, wants, outputs}
-use Rattle.machine.specs.Registers.{bstrAt, bcerAt, register, registers, reading, bstrWrite, bcerWrite, written, writes}
+use Rattle.machine.specs.Registers.{settingOf, bstrAt, bcerAt, register, registers, reading, bstrWrite, bcerWrite, written, writes}
 use Rattle.machine.specs.Acts.{sampledAt, tickedAt, pinsTo, tickTo}
+use Rattle.machine.specs.After.{bayWritten}
 use Rattle.machine.specs.declared.Machine.{Machine}
-use Rattle.machine.proofs.Bays.{put-bay, other-kept}
+use Rattle.machine.proofs.Bays.{put-bay}
 use Rattle.machine.proofs.Choice.{passed}
+use Rattle.machine.proofs.After.{written-bay}
 use Rattle.machine.proofs.Fit.{fresh-fit}
 
 -- ---- a fresh machine: fit, not started, outputs 000, every register 0
@@ -69,14 +70,6 @@ closed-bay m o =
 
 -- ---- one bay's registers leave the other bay alone
 
-pub bstr-apart : (i j v : ℕ) (m : Machine) → eqb i 0 ≡ not (eqb j 0) → bayAt (bstrWrite i v m) j ≡ bayAt m j
-unfolding bstrWrite
-bstr-apart i j v m e = pick (λ t. bayAt t j ≡ bayAt m j) (isOpen m i) (λ o. other-kept i j _ (m .bays) e) (λ o. refl)
-
-pub bcer-apart : (i j v : ℕ) (m : Machine) → eqb i 0 ≡ not (eqb j 0) → bayAt (bcerWrite i v m) j ≡ bayAt m j
-unfolding bcerWrite
-bcer-apart i j v m e = pick (λ t. bayAt t j ≡ bayAt m j) (isOpen m i) (λ o. other-kept i j _ (m .bays) e) (λ o. refl)
-
 pub record Apart (v : ℕ) (m : Machine) : Type 0 where
   pub bstr0 : bayAt (written 0x10 v m) 1 ≡ bayAt m 1
   pub bcer0 : bayAt (written 0x14 v m) 1 ≡ bayAt m 1
@@ -84,9 +77,9 @@ pub record Apart (v : ℕ) (m : Machine) : Type 0 where
   pub bcer1 : bayAt (written 0x1C v m) 0 ≡ bayAt m 0
 
 pub writes-apart : (v : ℕ) (m : Machine) → Apart v m
-unfolding written writes
+unfolding bayWritten
 writes-apart v m =
-    record { bstr0 = bstr-apart 0 1 v m refl; bcer0 = bcer-apart 0 1 v m refl; bstr1 = bstr-apart 1 0 v m refl; bcer1 = bcer-apart 1 0 v m refl }
+    record { bstr0 = written-bay 0x10 v m 1; bcer0 = written-bay 0x14 v m 1; bstr1 = written-bay 0x18 v m 0; bcer1 = written-bay 0x1C v m 0 }
 
 -- ---- power after a write of BCER, in an open bay
 
@@ -94,7 +87,7 @@ pub bcer-power :
     (i v : ℕ) (m : Machine) → isOpen m i ≡ true
     → (bayAt (bcerWrite i v m) i .control .«pwr_ctl» ≡ true) ↔ ((bit 0 v ≡ true) × (bit 7 v ≡ true) × (present (bayAt m i) ≡ true))
 unfolding bcerWrite controlOf
-bcer-power i v m o = rw (o, put-bay i) (power-needs-lock-and-device (controlOf v) _ _ (bayAt m i))
+bcer-power i v m o = rw (o, put-bay i) (power-needs-lock-and-device (controlOf v) _ (bayAt m i))
 
 -- ---- power over a tick
 
@@ -102,4 +95,4 @@ bcer-power i v m o = rw (o, put-bay i) (power-needs-lock-and-device (controlOf v
 pub enabled-stays-powered : (m : Machine) (i : ℕ) → bayAt m i .control .«pwr_ctl» ≡ true → tickedAt m i .state ≡ ENABLED → tickedAt m i .control .«pwr_ctl» ≡ true
 unfolding tickedAt
 enabled-stays-powered m i p =
-    pick (λ (b : Bay). b .state ≡ ENABLED → b .control .«pwr_ctl» ≡ true) (isOpen m i) (λ o. enabled-keeps-power (bayAt m i) p) (λ o e. p)
+    pick (λ (b : Bay). b .state ≡ ENABLED → b .control .«pwr_ctl» ≡ true) (isOpen m i) (λ o. enabled-keeps-power (settingOf m) (bayAt m i) p) (λ o e. p)

@@ -1,6 +1,7 @@
 pub mod Choice
 pub mod Bays
 pub mod Addresses
+pub mod After
 pub mod Kept
 pub mod Fit
 pub mod Sound
@@ -13,6 +14,7 @@ pub mod Drives
 pub mod Moves
 pub mod Remreq
 pub mod Letr
+pub mod Wait
 pub mod Inputs
 pub mod Pulse
 pub mod Determined

@@ -16,7 +16,7 @@ use Rattle.bay.proofs.Laws.{Sensed, sampled}
 use Rattle.bay.specs.Registers.{bstrOf, bcerOf}
 use Rattle.bay.proofs.Named.{bcer-pulses, reset-senses}
 use Rattle.machine.specs.Record.{bayAt, bayIn, openBy, isOpen}
-use Rattle.machine.specs.Registers.{Row, find, dbccrOf, bstrAt, bcerAt, registers, register, reading, dbccrStored, dbccrWrite, letrWrite, pulseTicks, bstrWrite, bcerWrite, writes, written}
+use Rattle.machine.specs.Registers.{Row, find, dbccrOf, bstrAt, bcerAt, registers, register, reading, dbccrStored, dbccrWrite, letrWrite, waitWrite, pulseTicks, settingOf, bstrWrite, bcerWrite, writes, written}
 use Rattle.machine.specs.Acts.{resetTo, sampledAt, pinsTo}
 use Rattle.machine.specs.declared.Machine.{Machine}
 use Rattle.machine.proofs.Bays.{put-bay}
@@ -49,7 +49,8 @@ pub record Reads (m : Machine) : Type 0 where
   pub bstr-1 : isOpen m 1 ≡ true → reading m 0x18 ≡ bstrOf (bayAt m 1)
   pub bcer-1 : isOpen m 1 ≡ true → reading m 0x1C ≡ bcerOf (bayAt m 1)
   pub letr : m .shared .«lock_time» < 4 → reading m 0x40 ≡ m .shared .«lock_time»
-  pub others : (a : ℕ) → among a (0x00 ∷ 0x01 ∷ 0x04 ∷ 0x0C ∷ 0x10 ∷ 0x14 ∷ 0x18 ∷ 0x1C ∷ 0x40 ∷ []) ≡ false → reading m a ≡ 0
+  pub wait : m .shared .«wait_time» < 256 → reading m 0x42 ≡ m .shared .«wait_time»
+  pub others : (a : ℕ) → among a (0x00 ∷ 0x01 ∷ 0x04 ∷ 0x0C ∷ 0x10 ∷ 0x14 ∷ 0x18 ∷ 0x1C ∷ 0x40 ∷ 0x42 ∷ []) ≡ false → reading m a ≡ 0
 
 reads-on : (m : Machine) → m .started ≡ true → (a : ℕ) → reading m a ≡ register m a
 unfolding reading
@@ -66,6 +67,7 @@ reads m t =
       bstr-1 = λ o. reads-on m t 0x18 ∙ chosen o (bstrOf (bayAt m 1)) 0;
       bcer-1 = λ o. reads-on m t 0x1C ∙ chosen o (bcerOf (bayAt m 1)) 0;
       letr = λ l. reads-on m t 0x40 ∙ omega (arith, l);
+      wait = λ l. reads-on m t 0x42 ∙ omega (arith, l);
       others = λ a n. reads-on m t a ∙ find-none a (registers m) 0 n;
     }
 
@@ -78,7 +80,8 @@ pub record Takes (v : ℕ) (m : Machine) : Type 0 where
   pub bstr-1 : written 0x18 v m ≡ bstrWrite 1 v m
   pub bcer-1 : written 0x1C v m ≡ bcerWrite 1 v m
   pub letr : written 0x40 v m ≡ letrWrite v m
-  pub others : (a : ℕ) → among a (0x0C ∷ 0x10 ∷ 0x14 ∷ 0x18 ∷ 0x1C ∷ 0x40 ∷ []) ≡ false → written a v m ≡ m
+  pub wait : written 0x42 v m ≡ waitWrite v m
+  pub others : (a : ℕ) → among a (0x0C ∷ 0x10 ∷ 0x14 ∷ 0x18 ∷ 0x1C ∷ 0x40 ∷ 0x42 ∷ []) ≡ false → written a v m ≡ m
 
 pub takes : (v : ℕ) (m : Machine) → Takes v m
 unfolding written writes
@@ -90,10 +93,11 @@ takes v m =
       bstr-1 = refl;
       bcer-1 = refl;
       letr = refl;
+      wait = refl;
       others = λ a n. find-none a (writes v m) m n;
     }
 
--- ---- DBCCR and LETR as they read back
+-- ---- DBCCR, LETR and 42h as they read back
 
 -- A bit of a number, put back.
 bit-back : (n : ℕ) → n < 2 → put 4 (eqb n 1) ≡ n * 16
@@ -119,6 +123,11 @@ pub letr-reads-back : (v : ℕ) (m : Machine) → m .started ≡ true → readin
 unfolding letrWrite
 letr-reads-back v m t = ap (λ n. reading n 0x40) (takes v m .letr) ∙ reads (letrWrite v m) t .letr (omega arith)
 
+-- 42h reads back as it was written, all eight bits.
+pub wait-reads-back : (v : ℕ) (m : Machine) → v < 256 → m .started ≡ true → reading (written 0x42 v m) 0x42 ≡ v
+unfolding waitWrite
+wait-reads-back v m l t = ap (λ n. reading n 0x42) (takes v m .wait) ∙ reads (waitWrite v m) t .wait l
+
 -- LETR's ticks, in that order.
 pub lock-times : map pulseTicks (0 ∷ 1 ∷ 2 ∷ 3 ∷ []) ≡ 12 ∷ 50 ∷ 100 ∷ 200 ∷ []
 unfolding pulseTicks
@@ -128,9 +137,8 @@ lock-times = refl
 pub unlocking :
     (i v : ℕ) (m : Machine) → isOpen m i ≡ true → lockMode (m .straps) ≡ true → bayAt m i .control .«lock_ctl» ≡ true → bit 7 v ≡ false
     → bayAt (bcerWrite i v m) i .pulse ≡ pulseTicks (m .shared .«lock_time»)
-unfolding bcerWrite
-unlocking i v m o mode l h =
-    rw (chosen o, put-bay i) (bcer-pulses v (lockMode (m .straps)) (pulseTicks (m .shared .«lock_time»)) (bayAt m i) .begins mode l h)
+unfolding bcerWrite settingOf
+unlocking i v m o mode l h = rw (chosen o, put-bay i) (bcer-pulses v (settingOf m) (bayAt m i) .begins mode l h)
 
 -- ---- closing bay 1
 
@@ -155,20 +163,21 @@ closing v m w = subst (Closing v m) (sym (dbccr-first v m w)) (stored-closing v 
 
 -- ---- RESET and PINS
 
--- DBCCR reads 0 and can be written, LETR reads 1, or 0 if the short pulse is asked for, the phase is 0 and both bays are open.
+-- DBCCR and 42h read 0, DBCCR can be written, LETR reads 1, or 0 if the short pulse is asked for, the phase is 0 and both bays are open.
 pub record Begun (straps : ℕ) (short : Bool) (m : Machine) : Type 0 where
   pub started : m .started ≡ true
   pub straps-stored : m .straps ≡ straps
   pub dbccr : reading m 0x0C ≡ 0
   pub unwritten : m .shared .«dbccr_written» ≡ false
   pub letr : reading m 0x40 ≡ cond short 0 1
+  pub wait : reading m 0x42 ≡ 0
   pub phase : m .phase ≡ 0
   pub both-open : isOpen m 1 ≡ true
 
 pub reset-begins : (straps levels : ℕ) (short : Bool) → Begun straps short (resetTo straps levels short)
 unfolding resetTo reading register registers dbccrOf openBy
 reset-begins straps levels short =
-    record { started = refl; straps-stored = refl; dbccr = refl; unwritten = refl; letr = starts short; phase = refl; both-open = refl }
+    record { started = refl; straps-stored = refl; dbccr = refl; unwritten = refl; letr = starts short; wait = refl; phase = refl; both-open = refl }
   where
     starts : (b : Bool) → _≡_ {A = ℕ} (cond b 0 1 % 4) (cond b 0 1)
     starts true = refl

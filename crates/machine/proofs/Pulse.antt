@@ -14,26 +14,27 @@ use Rattle.bay.specs.Outputs.{lockPin}
 use Rattle.bay.proofs.Named.{bcer-stores, pulse-falls, lock-pin-mode-1}
 use Rattle.bay.proofs.Taut.{pick}
 use Rattle.machine.specs.Record.{bayAt, isOpen, openBy}
-use Rattle.machine.specs.Registers.{pulseTicks, bcerWrite}
+use Rattle.machine.specs.Registers.{pulseTicks, settingOf, bcerWrite}
 use Rattle.machine.specs.Acts.{resetTo, tickTo, does, doesAll}
-use Rattle.machine.specs.Moves.{bcerAddress}
+use Rattle.machine.specs.After.{bcerAddress, bayAfter}
 use Rattle.machine.specs.declared.Machine.{Machine}
 use Rattle.machine.specs.declared.Shared.{Shared}
 use Rattle.machine.specs.declared.Act.the-variants.{Write, Tick}
 use Rattle.machine.proofs.Choice.{chosen}
 use Rattle.machine.proofs.Addresses.{write-steady}
 use Rattle.machine.proofs.Map.{unlocking}
-use Rattle.machine.proofs.Moves.{moves, ticked-each, bcer-write}
+use Rattle.machine.proofs.After.{bay-after}
+use Rattle.machine.proofs.Moves.{moves, bcer-write}
 
 -- The machine after so many TICKs.
 abbrev pub ticked : ℕ → Machine → Machine
 ticked n m = doesAll (replicate n Tick) m
 
 pulse-left : (n : ℕ) (m : Machine) (i : ℕ) → isOpen m i ≡ true → bayAt (ticked n m) i .pulse ≡ bayAt m i .pulse - n
-unfolding doesAll does tickTo
+unfolding doesAll does tickTo bayAfter
 pulse-left zero m i o = omega arith
 pulse-left (suc n) m i o =
-    let one : bayAt (tickTo m) i .pulse ≡ bayAt m i .pulse - 1 = ap (λ (b : Bay). b .pulse) (ticked-each m i ∙ chosen o _ _) ∙ pulse-falls (bayAt m i) in
+    let one : bayAt (tickTo m) i .pulse ≡ bayAt m i .pulse - 1 = ap (λ (b : Bay). b .pulse) (bay-after Tick m i ∙ chosen o _ _) ∙ pulse-falls (settingOf m) (bayAt m i) in
     pulse-left n (tickTo m) i o ∙ rw one (omega arith)
 
 straps-stay : (n : ℕ) (m : Machine) → ticked n m .straps ≡ m .straps
@@ -88,7 +89,7 @@ module _ (straps levels : ℕ) (short : Bool) (i v w : ℕ) (mode : lockMode str
   mode-locked = ap lockMode (write-steady (bcerAddress i) v begun .straps) ∙ mode
 
   lock-ctl : bayAt locked i .control .«lock_ctl» ≡ true
-  lock-ctl = rw (moves begun i l .bcer v (reset-open straps levels short i)) (bcer-stores v _ _ (bayAt begun i) .lock-ctl ∙ locks)
+  lock-ctl = rw (moves begun i .bcer v (reset-open straps levels short i)) (bcer-stores v _ (bayAt begun i) .lock-ctl ∙ locks)
 
   pulse : bayAt (unlocked i v w begun) i .pulse ≡ cond short 12 50
   unfolding does resetTo

@@ -50,7 +50,7 @@ register-byte m a =
           omega arith,
           (
             dbccr-byte (m .shared),
-            (bstr-at-byte m 0, (bcer-at-byte m 0, (bstr-at-byte m 1, (bcer-at-byte m 1, (omega arith, tt))))),
+            (bstr-at-byte m 0, (bcer-at-byte m 0, (bstr-at-byte m 1, (bcer-at-byte m 1, (omega arith, (omega arith, tt)))))),
           ),
         ),
       ),

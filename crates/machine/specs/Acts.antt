@@ -9,7 +9,7 @@ use Rattle.bay.specs.Record.{resetBay}
 use Rattle.bay.specs.Debounce.{sampledBay}
 use Rattle.bay.specs.Moves.{tickedBay}
 use Rattle.machine.specs.Record.{PHASES, bayAt, isOpen, become, withBays, unwritten}
-use Rattle.machine.specs.Registers.{written}
+use Rattle.machine.specs.Registers.{settingOf, written}
 use Rattle.machine.specs.declared.Machine.{Machine}
 use Rattle.machine.specs.declared.Act.{Act}
 use Rattle.machine.specs.declared.Act.the-variants.{Write, Read, Pins, Tick, Reset}
@@ -22,7 +22,7 @@ lockAfterReset straps = lockDef straps && not (lockMode straps)
 abbrev pub letrAfterReset : Bool → ℕ
 letrAfterReset short = cond short 0 1
 
--- RESET: LETR so, DBCCR 0 and unwritten, phase 0, both bays as RESET makes them with their levels (bay 0's are bits 7-4).
+-- RESET: LETR so, 42h 0, DBCCR 0 and unwritten, phase 0, both bays as RESET makes them with their levels (bay 0's are bits 7-4).
 unfoldable pub resetTo : ℕ → ℕ → Bool → Machine
 resetTo straps levels short =
     record {
@@ -38,7 +38,7 @@ unfoldable pub sampledAt : Machine → ℕ → ℕ → Bay
 sampledAt m i levels = cond (isOpen m i) (sampledBay levels (bayAt m i)) (bayAt m i)
 
 unfoldable pub tickedAt : Machine → ℕ → Bay
-tickedAt m i = cond (isOpen m i) (tickedBay (bayAt m i)) (bayAt m i)
+tickedAt m i = cond (isOpen m i) (tickedBay (settingOf m) (bayAt m i)) (bayAt m i)
 
 -- PINS: bay 0's levels are bits 7-4.
 unfoldable pub pinsTo : ℕ → Machine → Machine

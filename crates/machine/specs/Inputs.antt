@@ -1,13 +1,12 @@
 -- What becomes of a bay's inputs at each act (document 01, "Bay moves" and "Registers"; document 02, request 5).
-use Prim.Native.Nat.{ℕ, _-_, _/_, _%_}
+use Prim.Native.Nat.{ℕ, _-_}
 use mathlib.Core.Bool.{Bool, true, cond}
-use lib.Dec.{eqb}
 use Rattle.bits.specs.Bits.{bit}
 use Rattle.bay.specs.Record.{ticksFor}
 use Rattle.bay.specs.Debounced.{Line, atRest, Tick as SeesTick, Sample, sees}
 use Rattle.bay.specs.Happens.{line}
 use Rattle.machine.specs.Record.{bayAt, isOpen}
-use Rattle.machine.specs.Moves.{closes}
+use Rattle.machine.specs.After.{closes, ownLevels}
 use Rattle.machine.specs.declared.Machine.{Machine}
 use Rattle.machine.specs.declared.Act.{Act}
 use Rattle.machine.specs.declared.Act.the-variants.{Write, Read, Pins, Tick, Reset}
@@ -16,10 +15,7 @@ use Rattle.machine.specs.declared.Act.the-variants.{Write, Read, Pins, T
 abbrev pub inputOf : Machine → ℕ → ℕ → Line
 inputOf m i k = line (bayAt m i) k
 
--- The four levels of bay 0, or else of bay 1, and that of input k among them: n1394, nUSB, nREMREQ from the highest down.
-abbrev pub ownLevels : ℕ → ℕ → ℕ
-ownLevels i levels = cond (eqb i 0) (levels / 16) (levels % 16)
-
+-- The level of input k among a bay's four: n1394, nUSB, nREMREQ from the highest down.
 abbrev pub sampleOf : ℕ → ℕ → ℕ → Bool
 sampleOf i k levels = bit (3 - k) (ownLevels i levels)
 

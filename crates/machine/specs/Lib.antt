@@ -2,9 +2,11 @@ pub mod Record
 pub mod Outputs
 pub mod Registers
 pub mod Acts
+pub mod After
 pub mod Sound
 pub mod Kept
 pub mod Moves
 pub mod Remreq
 pub mod Letr
+pub mod Wait
 pub mod Inputs

@@ -1,19 +1,12 @@
 -- What moves a bay of a machine (document 01, "Bay moves" and "Registers").
-use Prim.Native.Nat.{ℕ, _%_}
-use mathlib.Core.Bool.{Bool, true, false, not, cond, _&&_, _||_}
+use Prim.Native.Nat.{ℕ}
+use mathlib.Core.Bool.{Bool, true, false, _&&_, _||_}
 use lib.Dec.{eqb}
 use Rattle.machine.specs.Record.{isOpen}
+use Rattle.machine.specs.After.{bcerAddress, closes}
 use Rattle.machine.specs.declared.Machine.{Machine}
 use Rattle.machine.specs.declared.Act.{Act}
 use Rattle.machine.specs.declared.Act.the-variants.{Write, Read, Pins, Tick, Reset}
-
--- BCER of bay 0, or else of bay 1.
-abbrev pub bcerAddress : ℕ → ℕ
-bcerAddress i = cond (eqb i 0) 0x14 0x1C
-
--- The first write of DBCCR with count 1 closes bay 1.
-abbrev pub closes : Machine → ℕ → ℕ → ℕ → Bool
-closes m i a v = eqb a 0x0C && eqb (v % 4) 1 && not (m .shared .«dbccr_written») && not (eqb i 0)
 
 -- A TICK and a write of its BCER while it is open, a RESET, and for bay 1 the write that closes it: nothing else.
 abbrev pub movesBay : Machine → ℕ → Act → Bool

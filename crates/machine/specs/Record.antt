@@ -70,9 +70,9 @@ withBay i b m = withBays (placed i b (m .bays)) m
 
 -- ---- fresh and fit
 
--- DBCCR 0 and unwritten, and LETR as given.
+-- DBCCR 0 and unwritten, LETR as given, and 42h 0.
 abbrev pub unwritten : ℕ → Shared
-unwritten letr = record { «dbccr_written» = false; seclock = false; «bay_count» = 0; «lock_time» = letr }
+unwritten letr = record { «dbccr_written» = false; seclock = false; «bay_count» = 0; «lock_time» = letr; «wait_time» = 0 }
 
 -- A fresh state is not started.
 unfoldable pub freshMachine : Machine

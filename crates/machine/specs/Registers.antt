@@ -1,4 +1,4 @@
--- The register map (document 01, "Registers"; document 001, Table 5).
+-- The register map (document 01, "Registers"; document 001, Table 5; document 02, request 6).
 use Prim.Native.Nat.{ℕ, _+_, _%_}
 use mathlib.Core.Bool.{true, cond}
 use mathlib.Core.List.{List, [], _∷_}
@@ -7,6 +7,7 @@ use lib.ListN.{getD}
 use Rattle.bits.specs.Bits.{bit, put}
 use Rattle.bits.specs.Straps.{lockMode}
 use Rattle.bay.specs.Record.{emptyBay}
+use Rattle.bay.specs.declared.Setting.{Setting}
 use Rattle.bay.specs.Registers.{bstrOf, bcerOf, bstrWritten, controlOf, controlledBay}
 use Rattle.machine.specs.Record.{ONE-BAY, bayAt, isOpen, become, withBay}
 use Rattle.machine.specs.declared.Machine.{Machine}
@@ -47,6 +48,7 @@ registers m =
     ∷ at 0x18 (bstrAt m 1)
     ∷ at 0x1C (bcerAt m 1)
     ∷ at 0x40 (m .shared .«lock_time» % 4)
+    ∷ at 0x42 (m .shared .«wait_time» % 256)
     ∷ []
 
 -- Every other address reads 0.
@@ -59,7 +61,7 @@ reading m a = cond (m .started) (register m a) 0
 
 -- DBCCR stores SECLOCK and the bay count. Count 1 closes bay 1: the write makes its record empty.
 abbrev pub dbccrTo : ℕ → Shared → Shared
-dbccrTo v r = record { «dbccr_written» = true; seclock = bit 4 v; «bay_count» = v % 4; «lock_time» = r .«lock_time» }
+dbccrTo v r = record { «dbccr_written» = true; seclock = bit 4 v; «bay_count» = v % 4; «lock_time» = r .«lock_time»; «wait_time» = r .«wait_time» }
 
 unfoldable pub dbccrStored : ℕ → Machine → Machine
 dbccrStored v m = become (dbccrTo v (m .shared)) (m .phase) (bayAt m 0 ∷ cond (eqb (v % 4) ONE-BAY) emptyBay (bayAt m 1) ∷ []) m
@@ -71,7 +73,7 @@ dbccrWrite v m = cond (m .shared .«dbccr_written») m (dbccrStored v m)
 -- LETR: bits 1-0 ..
 abbrev pub letrTo : ℕ → Shared → Shared
 letrTo v r =
-    record { «dbccr_written» = r .«dbccr_written»; seclock = r .seclock; «bay_count» = r .«bay_count»; «lock_time» = v % 4 }
+    record { «dbccr_written» = r .«dbccr_written»; seclock = r .seclock; «bay_count» = r .«bay_count»; «lock_time» = v % 4; «wait_time» = r .«wait_time» }
 
 unfoldable pub letrWrite : ℕ → Machine → Machine
 letrWrite v m = become (letrTo v (m .shared)) (m .phase) (m .bays) m
@@ -80,13 +82,25 @@ letrWrite v m = become (letrTo v (m .shared)) (m .phase) (m .bays) m
 unfoldable pub pulseTicks : ℕ → ℕ
 pulseTicks t = getD (12 ∷ 50 ∷ 100 ∷ []) t 200
 
+-- 42h: all eight bits, the ticks for which a device seats.
+abbrev pub waitTo : ℕ → Shared → Shared
+waitTo v r =
+    record { «dbccr_written» = r .«dbccr_written»; seclock = r .seclock; «bay_count» = r .«bay_count»; «lock_time» = r .«lock_time»; «wait_time» = v }
+
+unfoldable pub waitWrite : ℕ → Machine → Machine
+waitWrite v m = become (waitTo v (m .shared)) (m .phase) (m .bays) m
+
+-- What LOCK_MODE, LETR and 42h are for a bay.
+unfoldable pub settingOf : Machine → Setting
+settingOf m =
+    record { «lock_mode» = lockMode (m .straps); «pulse_ticks» = pulseTicks (m .shared .«lock_time»); «wait_ticks» = m .shared .«wait_time» }
+
 -- BSTR and BCER of a closed bay take no write.
 unfoldable pub bstrWrite : ℕ → ℕ → Machine → Machine
 bstrWrite i v m = cond (isOpen m i) (withBay i (bstrWritten v (bayAt m i)) m) m
 
 unfoldable pub bcerWrite : ℕ → ℕ → Machine → Machine
-bcerWrite i v m =
-    cond (isOpen m i) (withBay i (controlledBay (controlOf v) (lockMode (m .straps)) (pulseTicks (m .shared .«lock_time»)) (bayAt m i)) m) m
+bcerWrite i v m = cond (isOpen m i) (withBay i (controlledBay (controlOf v) (settingOf m) (bayAt m i)) m) m
 
 -- What a write does, by address.
 unfoldable pub writes : ℕ → Machine → List (Row Machine)
@@ -97,6 +111,7 @@ writes v m =
     ∷ at 0x18 (bstrWrite 1 v m)
     ∷ at 0x1C (bcerWrite 1 v m)
     ∷ at 0x40 (letrWrite v m)
+    ∷ at 0x42 (waitWrite v m)
     ∷ []
 
 -- A whole write. At every other address it is without effect.

@@ -1,22 +1,18 @@
 -- What becomes of a bay's REMREQ_STS at each act (document 01, "Registers" and "Bay moves"; document 02, request 1).
 use Prim.Native.Nat.{ℕ}
-use mathlib.Core.Bool.{Bool, false, not, cond, _&&_, _||_}
+use mathlib.Core.Bool.{Bool, false, not, _&&_, _||_}
 use lib.Dec.{eqb}
 use Rattle.bits.specs.Bits.{bit}
 use Rattle.bay.specs.Table.{pressOver}
 use Rattle.machine.specs.Record.{bayAt, isOpen}
 use Rattle.machine.specs.Acts.{does}
-use Rattle.machine.specs.Moves.{closes}
+use Rattle.machine.specs.After.{bstrAddress, closes}
 use Rattle.machine.specs.declared.Machine.{Machine}
 use Rattle.machine.specs.declared.Act.{Act}
 use Rattle.machine.specs.declared.Act.the-variants.{Write, Read, Pins, Tick, Reset}
 
 abbrev pub remreq : Machine → ℕ → Bool
 remreq m i = bayAt m i .«remreq_sts»
-
--- BSTR of bay 0, or else of bay 1.
-abbrev pub bstrAddress : ℕ → ℕ
-bstrAddress i = cond (eqb i 0) 0x10 0x18
 
 -- A write clears it by a 1 in bit 3 of an open bay's BSTR, or by closing the bay.
 abbrev pub clears : Machine → ℕ → ℕ → ℕ → Bool

@@ -10,6 +10,7 @@ use crate::Machine;
 use crate::Shared;
 use crate::record::is_open;
 use bay::Bay;
+use bay::Setting;
 use bits::straps::lock_def;
 use bits::straps::lock_mode;
 
@@ -39,10 +40,10 @@ fn sampled(open: bool, bay: Bay, levels: u8) -> Bay
 }
 
 // A bay after a tick. A closed bay is passed by.
-fn ticked(open: bool, bay: Bay) -> Bay
-    ensures { λ r. ⌜ r ≡ cond «open» (tickedBay bay) bay ⌝ }
+fn ticked(open: bool, bay: Bay, setting: Setting) -> Bay
+    ensures { λ r. ⌜ r ≡ cond «open» (tickedBay setting bay) bay ⌝ }
 {
-    if open { bay.ticked() } else { bay }
+    if open { bay.ticked(setting) } else { bay }
 }
 
 impl Machine {
@@ -78,8 +79,9 @@ impl Machine {
         ensures { λ r. ⌜ r ≡ tickTo self ⌝ }
     {
         let bays = self.bays;
-        let first = bays[0].ticked();
-        let second = ticked(is_open(self.shared.bay_count, 1), bays[1]);
+        let setting = self.setting();
+        let first = bays[0].ticked(setting);
+        let second = ticked(is_open(self.shared.bay_count, 1), bays[1], setting);
         let pair = [first, second];
         self.bays = pair;
         self.phase = next_phase(self.phase);

@@ -20,7 +20,7 @@ pub struct Machine {
     pub bays: [Bay; 2],
 }
 
-// The registers that the bays share: DBCCR and LETR.
+// The registers that the bays share: DBCCR, LETR and 42h.
 pub struct Shared {
     // DBCCR has been written since the RESET.
     pub dbccr_written: bool,
@@ -28,6 +28,8 @@ pub struct Shared {
     pub bay_count: u8,
     // LETR.
     pub lock_time: u8,
+    // 42h: for how many ticks a device seats before its bay is Inserted.
+    pub wait_time: u8,
 }
 
 // What a machine does, each at once.
@@ -73,6 +75,8 @@ impl Machine {
     pub const BCER_1: u8 = 0x1C;
 
     pub const LETR: u8 = 0x40;
+
+    pub const WAIT: u8 = 0x42;
 }
 
 impl Shared {

@@ -43,6 +43,7 @@ impl Shared {
             seclock: false,
             bay_count: 0,
             lock_time,
+            wait_time: 0,
         }
     }
 

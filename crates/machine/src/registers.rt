@@ -6,7 +6,7 @@ ghost use Prim.Native.Nat.{_/_, _%_};
 ghost use Rattle.bay.specs.Record.{emptyBay};
 ghost use Rattle.bay.specs.Registers.{bstrOf, bcerOf};
 ghost use Rattle.machine.specs.Record.{ONE-BAY};
-ghost use Rattle.machine.specs.Registers.{reading, register, dbccrOf, pulseTicks, dbccrWrite, letrWrite, bstrWrite, bcerWrite, written};
+ghost use Rattle.machine.specs.Registers.{reading, register, dbccrOf, pulseTicks, settingOf, dbccrWrite, letrWrite, waitWrite, bstrWrite, bcerWrite, written};
 use crate::Machine;
 use crate::Shared;
 use crate::record::bay_in;
@@ -14,6 +14,7 @@ use crate::record::is_open;
 use crate::record::place;
 use bay::Bay;
 use bay::Control;
+use bay::Setting;
 use bits::has;
 use bits::put;
 use bits::straps::lock_mode;
@@ -72,6 +73,17 @@ impl Shared {
 }
 
 impl Machine {
+    // What its straps and shared registers make of a bay's rules.
+    pub(crate) fn setting(self) -> Setting
+        ensures { λ r. ⌜ r ≡ settingOf self ⌝ }
+    {
+        Setting {
+            lock_mode: lock_mode(self.straps),
+            pulse_ticks: pulse_ticks(self.shared.lock_time),
+            wait_ticks: self.shared.wait_time,
+        }
+    }
+
     fn register(self, address: u8) -> u8
         ensures { λ r. ⌜ r ≡ register self address ⌝ }
     {
@@ -86,6 +98,7 @@ impl Machine {
             Machine::BSTR_0 | Machine::BSTR_1 => bstr(open, bay_in(bays, i)),
             Machine::BCER_0 | Machine::BCER_1 => bcer(open, bay_in(bays, i)),
             Machine::LETR => self.shared.lock_time % 4,
+            Machine::WAIT => self.shared.wait_time,
             _ => 0,
         }
     }
@@ -118,6 +131,7 @@ impl Machine {
             seclock: has(value, 16),
             bay_count: count,
             lock_time: self.shared.lock_time,
+            wait_time: self.shared.wait_time,
         };
         self.shared = shared;
         self.bays = pair;
@@ -129,6 +143,13 @@ impl Machine {
     {
         let time = value % 4;
         self.shared.lock_time = time;
+        self
+    }
+
+    fn with_wait(mut self, value: u8) -> Machine
+        ensures { λ r. ⌜ r ≡ waitWrite value self ⌝ }
+    {
+        self.shared.wait_time = value;
         self
     }
 
@@ -151,8 +172,7 @@ impl Machine {
             return self;
         }
         let bays = self.bays;
-        let ticks = pulse_ticks(self.shared.lock_time);
-        let bay = bay_in(bays, i).controlled(Control::of(value), lock_mode(self.straps), ticks);
+        let bay = bay_in(bays, i).controlled(Control::of(value), self.setting());
         let pair = place(bays, i, bay);
         self.bays = pair;
         self
@@ -167,6 +187,7 @@ impl Machine {
             Machine::BSTR_0 | Machine::BSTR_1 => self.with_bstr(bay_of(address), value),
             Machine::BCER_0 | Machine::BCER_1 => self.with_bcer(bay_of(address), value),
             Machine::LETR => self.with_letr(value),
+            Machine::WAIT => self.with_wait(value),
             _ => self,
         }
     }

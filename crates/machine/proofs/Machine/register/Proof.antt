@@ -1,5 +1,7 @@
 -- `machine::Machine::register` meets its contract: the arm that was taken says which address it is; any other is none of the
 -- table's. Assumes nothing.
+use Prim.Native.Nat.{_<_}
+use native.Mathlib.Omega.{arith}
 use mathlib.Core.Logic.{⊎-elim, inl, inr}
 use borrow.Author.Tests.{ne-eqb}
 use borrow.Author.Needs.{needs}
@@ -37,8 +39,13 @@ returns-7 c = rw (c .before .match .keys7)
 
 returns-8 : tie.Need-returns-8
 unfolding register registers
-returns-8 c = let r = c .match .rest in
-    rw (ne-eqb _ _ (r .0 .0 .0 .0 .0 .0 .1), ne-eqb _ _ (r .0 .0 .0 .0 .0 .1), ne-eqb _ _ (r .0 .0 .0 .0 .1), ne-eqb _ _ (r .0 .0 .0 .1), ne-eqb _ _ (λ e. r .0 .0 .1 (inl e)), ne-eqb _ _ (λ e. r .0 .1 (inl e)), ne-eqb _ _ (λ e. r .0 .0 .1 (inr e)), ne-eqb _ _ (λ e. r .0 .1 (inr e)), ne-eqb _ _ (r .1))
+returns-8 c =
+    let byte : c .before .before .before .before .args .self .shared .«wait_time» < 256 = search needs in rw (c .match .keys8) (omega (arith, byte))
+
+returns-9 : tie.Need-returns-9
+unfolding register registers
+returns-9 c = let r = c .match .rest in
+    rw (ne-eqb _ _ (r .0 .0 .0 .0 .0 .0 .0 .1), ne-eqb _ _ (r .0 .0 .0 .0 .0 .0 .1), ne-eqb _ _ (r .0 .0 .0 .0 .0 .1), ne-eqb _ _ (r .0 .0 .0 .0 .1), ne-eqb _ _ (λ e. r .0 .0 .0 .1 (inl e)), ne-eqb _ _ (λ e. r .0 .0 .1 (inl e)), ne-eqb _ _ (λ e. r .0 .0 .0 .1 (inr e)), ne-eqb _ _ (λ e. r .0 .0 .1 (inr e)), ne-eqb _ _ (r .0 .1), ne-eqb _ _ (r .1))
 
 pub register-spec : {M : Type 1} → statement M
 register-spec =
@@ -58,4 +65,5 @@ register-spec =
     returns-5
     returns-6
     returns-7
-    returns-8)
+    returns-8
+    returns-9)

@@ -12,7 +12,7 @@ returns c = rw (← c .before .is-open .ensures, not-true (c .before .is-open .r
 
 returns-2 : tie.Need-returns-2
 unfolding bcerWrite
-returns-2 c = rw (← c .before .before .before .before .before .before .before .before .is-open .ensures, not-false (c .before .before .before .before .before .before .before .before .is-open .result) (c .before .before .before .before .before .before .before .if1 .left), c .place .ensures, c .before .controlled .ensures, c .before .before .before .of .ensures, c .before .before .lock-mode .ensures, c .before .before .before .before .before .pulse-ticks .ensures, c .before .before .before .before .bay-in .ensures)
+returns-2 c = rw (← c .before .before .before .before .before .before .before .is-open .ensures, not-false (c .before .before .before .before .before .before .before .is-open .result) (c .before .before .before .before .before .before .if1 .left), c .place .ensures, c .before .controlled .ensures, c .before .before .before .of .ensures, c .before .before .setting .ensures, c .before .before .before .before .bay-in .ensures)
 
 pub with-bcer-spec : {M : Type 1} → statement M
 with-bcer-spec =
@@ -20,7 +20,6 @@ with-bcer-spec =
     (tie.spec
     (λ c κs. search needs)
     returns
-    (λ c κs. search needs)
     (λ c κs. search needs)
     (λ c κs. search needs)
     (λ c κs. search needs)

@@ -25,8 +25,12 @@ returns-4 c = rw (c .before .match .keys4) (c .with-letr .ensures)
 
 returns-5 : tie.Need-returns-5
 unfolding written writes
-returns-5 c = let r = c .match .rest in
-    rw (ne-eqb _ _ (r .0 .0 .0 .1), ne-eqb _ _ (λ e. r .0 .0 .1 (inl e)), ne-eqb _ _ (λ e. r .0 .1 (inl e)), ne-eqb _ _ (λ e. r .0 .0 .1 (inr e)), ne-eqb _ _ (λ e. r .0 .1 (inr e)), ne-eqb _ _ (r .1))
+returns-5 c = rw (c .before .match .keys5) (c .with-wait .ensures)
+
+returns-6 : tie.Need-returns-6
+unfolding written writes
+returns-6 c = let r = c .match .rest in
+    rw (ne-eqb _ _ (r .0 .0 .0 .0 .1), ne-eqb _ _ (λ e. r .0 .0 .0 .1 (inl e)), ne-eqb _ _ (λ e. r .0 .0 .1 (inl e)), ne-eqb _ _ (λ e. r .0 .0 .0 .1 (inr e)), ne-eqb _ _ (λ e. r .0 .0 .1 (inr e)), ne-eqb _ _ (r .0 .1), ne-eqb _ _ (r .1))
 
 pub write-spec : {M : Type 1} → statement M
 write-spec =
@@ -38,8 +42,10 @@ write-spec =
     (λ c κs. search needs)
     (λ c κs. search needs)
     (λ c κs. search needs)
+    (λ c κs. search needs)
     returns
     returns-2
     returns-3
     returns-4
-    returns-5)
+    returns-5
+    returns-6)
