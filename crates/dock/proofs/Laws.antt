@@ -1,6 +1,6 @@
 -- What the controller's rules come to (document 01): the theorems that others cite. The first parts hold in every state, or in every
 -- fit one; the last only in states reached from a fresh controller. Assumes nothing.
-use Prim.Native.Nat.{ℕ, _/_, _%_, _<_}
+use Prim.Native.Nat.{ℕ, _/_, _%_}
 use mathlib.Core.Path.{_≡_, refl, ap, _∙_}
 use mathlib.Core.Logic.{_≢_}
 use mathlib.Core.Bool.{true}
@@ -9,7 +9,8 @@ use Rattle.bay.specs.Record.{present, EMPTY}
 use Rattle.bay.proofs.Press.{Press, Kept as Pressed, press-then-write}
 use Rattle.bus.specs.declared.Progress.the-variants.{Idle, Data}
 use Rattle.machine.specs.Record.{bayAt, isOpen, fits}
-use Rattle.machine.specs.Moves.{bcerAddress}
+use Rattle.machine.specs.Registers.{settingOf}
+use Rattle.machine.specs.After.{bcerAddress}
 use Rattle.machine.proofs.Moves.{moves}
 use Rattle.machine.specs.Acts.{tickTo, does}
 use Rattle.machine.specs.Sound.{Sound}
@@ -53,12 +54,12 @@ tick-inside-a-write s r v p = stop-decides (next s Tick) r v (tick-passed-over s
 -- So a press that a TICK accepts between the data byte and the STOP of a write of BCER has moved the bay before the write acts on it, and
 -- a write that asks for no state doesn't lose it.
 pub press-inside-a-write :
-    (s : Controller) (i v : ℕ) → i < 2 → isOpen (s .machine) i ≡ true → s .progress ≡ Data (bcerAddress i) v → v / 16 % 8 ≡ 0
-    → Press (bayAt (s .machine) i) → Pressed v (bayAt (next (next s Tick) Stop .machine) i)
+    (s : Controller) (i v : ℕ) → isOpen (s .machine) i ≡ true → s .progress ≡ Data (bcerAddress i) v → v / 16 % 8 ≡ 0
+    → Press (settingOf (s .machine)) (bayAt (s .machine) i) → Pressed v (bayAt (next (next s Tick) Stop .machine) i)
 unfolding does tickTo
-press-inside-a-write s i v l o d z p =
+press-inside-a-write s i v o d z p =
     let m = does act.Tick (s .machine) in
-    rw (tick-inside-a-write s (bcerAddress i) v d, moves m i l .bcer v o, moves (s .machine) i l .tick o) (press-then-write v _ _ (bayAt (s .machine) i) z p)
+    rw (tick-inside-a-write s (bcerAddress i) v d, moves m i .bcer v o, moves (s .machine) i .tick o) (press-then-write v _ _ (bayAt (s .machine) i) z p)
 
 -- ---- reached states: the fault that started this work
 

@@ -5,6 +5,7 @@ pub mod Parts
 pub mod Remreq
 pub mod Refusals
 pub mod Letr
+pub mod Wait
 pub mod Inputs
 pub mod Replies
 pub mod Run

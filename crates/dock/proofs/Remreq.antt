@@ -15,13 +15,17 @@ use Rattle.bay.specs.Moves.{tickedBay}
 use Rattle.bay.specs.Sound.{Sound}
 use Rattle.bay.specs.Table.{pressOver}
 use Rattle.bay.specs.declared.Bay.{Bay}
+use Rattle.bay.specs.declared.Setting.{Setting}
 use Rattle.bay.proofs.Taut.{pick}
 use Rattle.bay.proofs.Sound.{ticked-sound}
 use Rattle.bay.proofs.Press.{WithArrival, press-over-nothing, empty-without-device, press-with-arrival}
 use Rattle.machine.specs.Record.{bayAt, isOpen, fits}
-use Rattle.machine.specs.Acts.{tickTo, does}
+use Rattle.machine.specs.Acts.{does}
+use Rattle.machine.specs.declared.Act.the-variants as act
 use Rattle.machine.specs.Remreq.{remreq, remreqAfter}
-use Rattle.machine.proofs.Moves.{ticked-each}
+use Rattle.machine.specs.Registers.{settingOf}
+use Rattle.machine.specs.After.{bayAfter}
+use Rattle.machine.proofs.After.{bay-after}
 use Rattle.machine.proofs.Remreq.{remreq-after}
 use Rattle.dock.specs.Events.{atStop, turnOf, next}
 use Rattle.dock.specs.Step.{takes, stepFit, stepOf}
@@ -79,16 +83,16 @@ remreq-raised s w i z = pick (P (unpacked w)) (fits (s .machine)) (λ f. word (u
 -- ---- a press over nothing, and one as a device arrives, in a reached state
 
 -- What holds of a bay where a TICK is refused or passes it by, and where it acts, holds after a TICK.
-tick-either : (P : Bay → Type 0) (s : Controller) (i : ℕ) → P (bayAt (s .machine) i) → P (tickedBay (bayAt (s .machine) i)) → P (bayAt (afterTick s) i)
-unfolding stepOf unpacked next turnOf does
+tick-either : (P : Bay → Type 0) (s : Controller) (i : ℕ) → P (bayAt (s .machine) i) → P (tickedBay (settingOf (s .machine)) (bayAt (s .machine) i)) → P (bayAt (afterTick s) i)
+unfolding stepOf unpacked next turnOf bayAfter
 tick-either P s i same ticked =
     pick Q (fits (s .machine)) (λ f. pick Q (takes (s .machine .started) Tick) (λ k. acted) (λ k. same)) (λ f. same)
   where
     Q : Stepped → Type 0
     Q x = P (bayAt (x .controller .machine) i)
 
-    acted : P (bayAt (tickTo (s .machine)) i)
-    acted = subst P (sym (ticked-each (s .machine) i)) (pick P (isOpen (s .machine) i) (λ o. ticked) (λ o. same))
+    acted : P (bayAt (does act.Tick (s .machine)) i)
+    acted = subst P (sym (bay-after act.Tick (s .machine) i)) (pick P (isOpen (s .machine) i) (λ o. ticked) (λ o. same))
 
 -- A TICK after which a bay holds no device leaves its REMREQ_STS as it was, set or not and whatever is pressed, and the bay is Empty.
 pub record NothingAsked (before after : Bay) : Type 0 where
@@ -100,21 +104,25 @@ pub reached-press-over-nothing :
 reached-press-over-nothing s r i =
     tick-either (λ c. present c ≡ false → NothingAsked b c) s i
     (λ q. record { remreq-kept = refl; empty = empty-without-device b sound q })
-    (λ q. record { remreq-kept = press-over-nothing b q .remreq-kept; empty = empty-without-device (tickedBay b) (ticked-sound b sound) q })
+    (λ q. record { remreq-kept = press-over-nothing g b q .remreq-kept; empty = empty-without-device (tickedBay g b) (ticked-sound g b sound) q })
   where
+    g : Setting
+    g = settingOf (s .machine)
+
     b : Bay
     b = bayAt (s .machine) i
 
     sound : Sound b
     sound = reached-sound s r .bays i
 
--- A press in the TICK in which a device arrives: REMREQ_STS is set, and the bay is Inserted if DEVSTSCHG_EN is 1 and else still Empty.
+-- A press in the TICK in which a device arrives: REMREQ_STS is set, and the bay is Inserted if DEVSTSCHG_EN is 1 and 42h is 0, and else
+-- still Empty.
 pub reached-press-with-arrival :
     (s : Controller) → Reached s → (i : ℕ) → present (bayAt (s .machine) i) ≡ false
-    → pressOver (bayAt (s .machine) i) (bayAt (afterTick s) i) ≡ true → WithArrival (bayAt (s .machine) i) (bayAt (afterTick s) i)
+    → pressOver (bayAt (s .machine) i) (bayAt (afterTick s) i) ≡ true → WithArrival (settingOf (s .machine)) (bayAt (s .machine) i) (bayAt (afterTick s) i)
 reached-press-with-arrival s r i p =
-    tick-either (λ c. pressOver b c ≡ true → WithArrival b c) s i (λ k. absurd (false≢true (rw and-not-self at k)))
-    (press-with-arrival b (reached-sound s r .bays i) p)
+    tick-either (λ c. pressOver b c ≡ true → WithArrival (settingOf (s .machine)) b c) s i (λ k. absurd (false≢true (rw and-not-self at k)))
+    (press-with-arrival (settingOf (s .machine)) b (reached-sound s r .bays i) p)
   where
     b : Bay
     b = bayAt (s .machine) i

@@ -10,4 +10,5 @@ pub mod Moves
 pub mod Parts
 pub mod Remreq
 pub mod Letr
+pub mod Wait
 pub mod Inputs

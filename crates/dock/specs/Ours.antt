@@ -178,6 +178,93 @@ together =
     ∷ gives (pushed 10) (reads 0x10 0x15)
     ∷ []
 
+-- ---- cartridges that seat slowly (document 02, request 6)
+
+-- 42h has eight bits; RESET starts it at 0, and closing bay 1 leaves it.
+abbrev wait-time : List Example
+wait-time =
+    gives (N ++ w 0x42 0xFF) (reads 0x42 0xFF)
+    ∷ gives (N ++ w 0x42 0x05 ++ N) (reads 0x42 0x00)
+    ∷ gives (N ++ w 0x42 0x05 ++ w 0x0C 0x01) (reads 0x42 0x05)
+    ∷ gives (N ++ w 0x42 0x05 ++ w 0x40 0x02) (reads 0x42 0x05)
+    ∷ []
+
+-- With a wait of t a device that arrives, in the tenth tick, is Inserted in the t-th tick after. Until then the bay is Empty and dark,
+-- BSTR shows the device, and the interrupt has come. What clears DEVSTSCHG meanwhile has cleared it for good.
+abbrev seats : ℕ → ℕ → List ℕ
+seats t n = N ++ w 0x42 t ++ w 0x14 0x0C ++ pins 0xBF ++ ticks n
+
+-- The same, of a device that is there when DEVSTSCHG_EN rises, and in bay 1.
+abbrev found : ℕ → ℕ → List ℕ
+found t n = R ++ w 0x42 t ++ w 0x14 0x04 ++ ticks n
+
+abbrev seats-1 : ℕ → ℕ → List ℕ
+seats-1 t n = N ++ w 0x42 t ++ w 0x1C 0x0C ++ pins 0xFB ++ ticks n
+
+abbrev waits : List Example
+waits =
+    gives (seats 0 10) (reads 0x10 0x15)
+    ∷ gives (seats 1 10) (reads 0x10 0x05)
+    ∷ gives (seats 1 11) (reads 0x10 0x15)
+    ∷ gives (seats 3 10) (drives 0x001)
+    ∷ gives (seats 3 12) (reads 0x10 0x05)
+    ∷ gives (seats 3 12) (drives 0x001)
+    ∷ gives (seats 3 13) (reads 0x10 0x15)
+    ∷ gives (seats 3 13) (drives 0x041)
+    ∷ gives (seats 255 264) (reads 0x10 0x05)
+    ∷ gives (seats 255 265) (reads 0x10 0x15)
+    ∷ gives (seats 3 10 ++ w 0x10 0x04 ++ ticks 3) (reads 0x10 0x11)
+    ∷ gives (found 0 0) (reads 0x10 0x15)
+    ∷ gives (found 2 1) (reads 0x10 0x05)
+    ∷ gives (found 2 2) (reads 0x10 0x15)
+    ∷ gives (seats-1 3 12) (reads 0x18 0x05)
+    ∷ gives (seats-1 3 13) (reads 0x18 0x15)
+    ∷ []
+
+-- It goes on through another value of 42h, a write of BSTR, DEVSTSCHG_EN written 1 over 1, REMREQ_EN, a request that is none, and a change of
+-- one of two presence bits.
+abbrev goes-on : List Example
+goes-on =
+    gives (seats 3 10 ++ w 0x42 0x09 ++ ticks 3) (reads 0x10 0x15)
+    ∷ gives (seats 3 10 ++ w 0x42 0x00 ++ ticks 2) (reads 0x10 0x05)
+    ∷ gives (seats 3 10 ++ w 0x42 0x00 ++ ticks 3) (reads 0x10 0x15)
+    ∷ gives (seats 3 11 ++ w 0x14 0x0C ++ ticks 1) (reads 0x10 0x05)
+    ∷ gives (seats 3 11 ++ w 0x14 0x0C ++ ticks 2) (reads 0x10 0x15)
+    ∷ gives (seats 3 11 ++ w 0x14 0x04 ++ ticks 2) (reads 0x10 0x15)
+    ∷ gives (seats 3 11 ++ w 0x14 0x5C ++ ticks 2) (reads 0x10 0x15)
+    ∷ gives (seats 12 10 ++ pins 0x3F ++ ticks 11) (reads 0x10 0x07)
+    ∷ gives (seats 12 10 ++ pins 0x3F ++ ticks 12) (reads 0x10 0x17)
+    ∷ gives (seats 22 10 ++ pins 0x3F ++ ticks 10 ++ pins 0x7F ++ ticks 12) (reads 0x10 0x16)
+    ∷ []
+
+-- It is broken off by a removal, in its last tick too, by DEVSTSCHG_EN written 0, by a request, by closing the bay and by RESET.
+abbrev breaks-off : List Example
+breaks-off =
+    gives (seats 11 10 ++ pins 0xFF ++ ticks 11) (reads 0x10 0x04)
+    ∷ gives (seats 10 10 ++ pins 0xFF ++ ticks 10) (reads 0x10 0x04)
+    ∷ gives (seats 9 10 ++ pins 0xFF ++ ticks 9) (reads 0x10 0x15)
+    ∷ gives (seats 3 11 ++ w 0x14 0x08 ++ ticks 2) (reads 0x10 0x05)
+    ∷ gives (seats 3 11 ++ w 0x14 0x08 ++ w 0x14 0x04 ++ ticks 2) (reads 0x10 0x05)
+    ∷ gives (seats 3 11 ++ w 0x14 0x08 ++ w 0x14 0x04 ++ ticks 3) (reads 0x10 0x15)
+    ∷ gives (seats 3 11 ++ w 0x14 0x2C) (reads 0x10 0x25)
+    ∷ gives (seats 3 11 ++ w 0x14 0x2C ++ ticks 2) (reads 0x10 0x25)
+    ∷ gives (R ++ w 0x42 0x02 ++ w 0x14 0x24 ++ ticks 2) (reads 0x10 0x25)
+    ∷ gives (seats-1 3 11 ++ w 0x0C 0x01 ++ ticks 2) (reads 0x18 0x00)
+    ∷ gives (seats 3 11 ++ R ++ ticks 2) (reads 0x10 0x05)
+    ∷ []
+
+-- A press in its last tick sets REMREQ_STS and moves nothing; so does one before, and a tick later it moves the bay. The wait's last tick
+-- may fall between the data byte and the STOP of a write: then the bay is Inserted before the write acts.
+abbrev wait-and-press : List Example
+wait-and-press =
+    gives (seats 6 10 ++ pins 0x9F ++ ticks 5) (reads 0x10 0x0D)
+    ∷ gives (seats 6 10 ++ pins 0x9F ++ ticks 6) (reads 0x10 0x1D)
+    ∷ gives (seats 5 10 ++ pins 0x9F ++ ticks 5) (reads 0x10 0x1D)
+    ∷ gives (seats 4 10 ++ pins 0x9F ++ ticks 5) (reads 0x10 0x3D)
+    ∷ gives (seats 3 12 ++ 0x0000 ∷ 0x4090 ∷ 0x4014 ∷ 0x4008 ∷ (ticks 1 ++ 0x2000 ∷ [])) (reads 0x10 0x15)
+    ∷ gives (seats 3 12 ++ 0x0000 ∷ 0x4090 ∷ 0x4014 ∷ 0x4008 ∷ 0x2000 ∷ ticks 1) (reads 0x10 0x05)
+    ∷ []
+
 -- ---- outputs
 
 -- Power, lock pin, green and the interrupt of bay 0; its yellow lamp; the same of bay 1.
@@ -272,4 +359,4 @@ inside =
 
 unfoldable pub ours : List Example
 ours =
-    unstarted ++ identity ++ bstr ++ bcer ++ letr ++ short ++ dbccr ++ moves ++ over-nothing ++ with-arrival ++ quick ++ together ++ lamps ++ flashing ++ locks ++ answered ++ inside
+    unstarted ++ identity ++ bstr ++ bcer ++ letr ++ short ++ dbccr ++ moves ++ over-nothing ++ with-arrival ++ quick ++ together ++ wait-time ++ waits ++ goes-on ++ breaks-off ++ wait-and-press ++ lamps ++ flashing ++ locks ++ answered ++ inside

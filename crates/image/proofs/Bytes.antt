@@ -32,10 +32,11 @@ pub machine-parts :
             seclock = isSet (byteAt bytes 3);
             «bay_count» = byteAt bytes 33;
             «lock_time» = byteAt bytes 34;
+            «wait_time» = byteAt bytes 35;
           };
-      phase = byteAt bytes 35;
+      phase = byteAt bytes 36;
       bays =
-          bayBy (map isSet (take 14 (drop 4 bytes))) (take 6 (drop 36 bytes)) ∷ bayBy (map isSet (take 14 (drop 18 bytes))) (take 6 (drop 42 bytes))
+          bayBy (map isSet (take 14 (drop 4 bytes))) (take 7 (drop 37 bytes)) ∷ bayBy (map isSet (take 14 (drop 18 bytes))) (take 7 (drop 44 bytes))
           ∷ [];
     }
 machine-parts = by-elements 0 BYTES _ (λ f. refl)

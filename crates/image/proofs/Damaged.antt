@@ -18,19 +18,22 @@ damaged i b = set (saved freshController) i b
 pub record Told : Type 0 where
   pub short : verdictOn (drop 1 (saved freshController)) ≡ WrongLength
   -- The layout before this one.
-  pub version : verdictOn (damaged 0 1) ≡ UnknownVersion
+  pub version : verdictOn (damaged 0 2) ≡ UnknownVersion
   pub first-flag : verdictOn (damaged 1 2) ≡ NotAFlag 1
   pub last-flag : verdictOn (damaged 31 255) ≡ NotAFlag 31
-  pub progress : verdictOn (damaged 48 7) ≡ UnknownProgress
-  pub first-byte : verdictOn (damaged 49 1) ≡ NotUsed 49
-  pub second-byte : verdictOn (damaged 50 1) ≡ NotUsed 50
+  pub progress : verdictOn (damaged 51 7) ≡ UnknownProgress
+  pub first-byte : verdictOn (damaged 52 1) ≡ NotUsed 52
+  pub second-byte : verdictOn (damaged 53 1) ≡ NotUsed 53
   -- A number out of its range is no damage to the image: the state is loaded as it is, and is not fit.
-  pub phase : verdictOn (damaged 35 200) ≡ Whole
-  pub unfit : fits (stateIn (damaged 35 200) .machine) ≡ false
+  pub phase : verdictOn (damaged 36 200) ≡ Whole
+  pub unfit : fits (stateIn (damaged 36 200) .machine) ≡ false
   -- Of the removal request count 4 is the last that fits.
-  pub button : verdictOn (damaged 38 5) ≡ Whole
-  pub button-fit : fits (stateIn (damaged 38 4) .machine) ≡ true
-  pub button-unfit : fits (stateIn (damaged 38 5) .machine) ≡ false
+  pub button : verdictOn (damaged 39 5) ≡ Whole
+  pub button-fit : fits (stateIn (damaged 39 4) .machine) ≡ true
+  pub button-unfit : fits (stateIn (damaged 39 5) .machine) ≡ false
+  -- Any byte fits as 42h and as a bay's wait.
+  pub wait-time-fit : fits (stateIn (damaged 35 255) .machine) ≡ true
+  pub wait-fit : fits (stateIn (damaged 43 255) .machine) ≡ true
 
 pub damage-told : Told
 unfolding verdictOn sizedVerdict progressVerdict firstOver stateIn saved progressBytes freshController freshMachine emptyBay bayIn fits bayFit
@@ -48,4 +51,6 @@ damage-told =
       button = refl;
       button-fit = refl;
       button-unfit = refl;
+      wait-time-fit = refl;
+      wait-fit = refl;
     }

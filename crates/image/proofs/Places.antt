@@ -5,6 +5,7 @@ use mathlib.Core.List.{[], _∷_, map}
 use lib.ListN.{drop}
 use Rattle.bus.specs.declared.Progress.the-variants.{Idle, Opened, Addressed, Register, Data, Again, Reading}
 use Rattle.dock.specs.declared.Controller.{Controller}
+use Rattle.image.specs.Layout.{PROGRESS}
 use Rattle.image.specs.Save.{progressBytes, saved}
 use Rattle.image.specs.Load.{byteAt}
 use Rattle.image.specs.Places.{placesOf}
@@ -21,6 +22,6 @@ unfolding progressBytes
 commands r v = refl
 
 -- The three bytes of the command in progress are the last.
-pub last-three : (s : Controller) → drop 48 (saved s) ≡ progressBytes (s .progress)
+pub last-three : (s : Controller) → drop PROGRESS (saved s) ≡ progressBytes (s .progress)
 unfolding saved
 last-three s = refl

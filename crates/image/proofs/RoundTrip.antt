@@ -1,6 +1,6 @@
 -- A state and its image. `load (save s)` is `s` for every record that the code's types can hold, fit or not; what was loaded saves as
 -- the bytes it came from, so that a state has one image. Assumes nothing.
-use Prim.Native.Nat.{ℕ, zero, suc, _+_}
+use Prim.Native.Nat.{ℕ, zero, suc, _+_, _-_}
 use native.Mathlib.Omega.{arith}
 use mathlib.Core.Path.{_≡_, refl, ap, sym, _∙_}
 use mathlib.Core.Logic.{_↔_}
@@ -17,7 +17,7 @@ use Rattle.machine.specs.Record.{bay0, bay1, bayIn}
 use Rattle.machine.specs.declared.Machine.{Machine}
 use Rattle.dock.specs.declared.Controller.{Controller}
 use Rattle.machine.proofs.Bays.{each}
-use Rattle.image.specs.Layout.{LAYOUT, BYTES}
+use Rattle.image.specs.Layout.{LAYOUT, BYTES, NUMBERS, PROGRESS}
 use Rattle.image.specs.Save.{flagByte, bayFlags, bayNumbers, flagsOf, numbersOf, progressBytes, saved}
 use Rattle.image.specs.Load.{byteAt, flagBytes, numbersIn, allFlags, firstOver, whole, progressVerdict, sizedVerdict, verdictOn, isImage, isSet, bayBy, machineBy, progressBy, stateIn, loadOf}
 use Rattle.image.specs.Shape.{ShapedBay, Shaped}
@@ -114,7 +114,7 @@ pub record Parts (bytes : List ℕ) : Type 0 where
   pub long : length bytes ≡ BYTES
   pub version : byteAt bytes 0 ≡ LAYOUT
   pub flags : allFlags (flagBytes bytes) ≡ true
-  pub progress : progressVerdict (byteAt bytes 48) (byteAt bytes 49) (byteAt bytes 50) ≡ Whole
+  pub progress : progressVerdict (byteAt bytes PROGRESS) (byteAt bytes (PROGRESS + 1)) (byteAt bytes (PROGRESS + 2)) ≡ Whole
 
 -- What a verdict of `Whole` says.
 pub parts : (bytes : List ℕ) → verdictOn bytes ≡ Whole → Parts bytes
@@ -123,7 +123,7 @@ parts bytes e = go (eqb (length bytes) BYTES) refl (eqb (byteAt bytes 0) LAYOUT)
   where
     go :
         (l : Bool) → eqb (length bytes) BYTES ≡ l → (v : Bool) → eqb (byteAt bytes 0) LAYOUT ≡ v → (f : Bool) → allFlags (flagBytes bytes) ≡ f
-        → cond l (cond v (cond f (progressVerdict (byteAt bytes 48) (byteAt bytes 49) (byteAt bytes 50)) (NotAFlag (1 + firstOver (flagBytes bytes)))) UnknownVersion) WrongLength ≡ Whole
+        → cond l (cond v (cond f (progressVerdict (byteAt bytes PROGRESS) (byteAt bytes (PROGRESS + 1)) (byteAt bytes (PROGRESS + 2))) (NotAFlag (1 + firstOver (flagBytes bytes)))) UnknownVersion) WrongLength ≡ Whole
         → Parts bytes
     go false l v p f q e = absurd (false≢true (ap whole e))
     go true l false p f q e = absurd (false≢true (ap whole e))
@@ -158,25 +158,25 @@ second-zero b i h = first-zero 0 b i 0 h .1
 
 progress-bytes-back : (which a b : ℕ) → progressVerdict which a b ≡ Whole → progressBytes (progressBy which a b) ≡ which ∷ a ∷ b ∷ []
 unfolding progressVerdict progressBytes
-progress-bytes-back zero a b h = let z = first-zero a b 50 49 h in rw (z .0, z .1) refl
-progress-bytes-back (suc zero) a b h = let z = first-zero a b 50 49 h in rw (z .0, z .1) refl
-progress-bytes-back (suc (suc zero)) a b h = let z = first-zero a b 50 49 h in rw (z .0, z .1) refl
-progress-bytes-back (suc (suc (suc zero))) a b h = rw (second-zero b 50 h) refl
+progress-bytes-back zero a b h = let z = first-zero a b (PROGRESS + 2) (PROGRESS + 1) h in rw (z .0, z .1) refl
+progress-bytes-back (suc zero) a b h = let z = first-zero a b (PROGRESS + 2) (PROGRESS + 1) h in rw (z .0, z .1) refl
+progress-bytes-back (suc (suc zero)) a b h = let z = first-zero a b (PROGRESS + 2) (PROGRESS + 1) h in rw (z .0, z .1) refl
+progress-bytes-back (suc (suc (suc zero))) a b h = rw (second-zero b (PROGRESS + 2) h) refl
 progress-bytes-back (suc (suc (suc (suc zero)))) a b h = refl
-progress-bytes-back (suc (suc (suc (suc (suc zero))))) a b h = rw (second-zero b 50 h) refl
-progress-bytes-back (suc (suc (suc (suc (suc (suc zero)))))) a b h = rw (second-zero b 50 h) refl
+progress-bytes-back (suc (suc (suc (suc (suc zero))))) a b h = rw (second-zero b (PROGRESS + 2) h) refl
+progress-bytes-back (suc (suc (suc (suc (suc (suc zero)))))) a b h = rw (second-zero b (PROGRESS + 2) h) refl
 progress-bytes-back (suc (suc (suc (suc (suc (suc (suc n))))))) a b h =
     absurd (false≢true (ap whole (rw (lt-leb (suc (suc (suc (suc (suc (suc (suc n))))))) 6 (omega arith)) at h)))
 
 flags-of : (fs : List Bool) (ns : List ℕ) → length fs ≡ 31 → flagsOf (machineBy fs ns) ≡ fs
 flags-of fs ns = by-elements false 31 (λ fs. flagsOf (machineBy fs ns) ≡ fs) (λ f. refl) fs
 
-numbers-of : (fs : List Bool) (ns : List ℕ) → length ns ≡ 16 → numbersOf (machineBy fs ns) ≡ ns
-numbers-of fs ns = by-elements 0 16 (λ ns. numbersOf (machineBy fs ns) ≡ ns) (λ f. refl) ns
+numbers-of : (fs : List Bool) (ns : List ℕ) → length ns ≡ PROGRESS - NUMBERS → numbersOf (machineBy fs ns) ≡ ns
+numbers-of fs ns = by-elements 0 (PROGRESS - NUMBERS) (λ ns. numbersOf (machineBy fs ns) ≡ ns) (λ f. refl) ns
 
 put-back :
     (bytes : List ℕ) → length bytes ≡ BYTES
-    → byteAt bytes 0 ∷ (flagBytes bytes ++ (numbersIn bytes ++ (byteAt bytes 48 ∷ byteAt bytes 49 ∷ byteAt bytes 50 ∷ []))) ≡ bytes
+    → byteAt bytes 0 ∷ (flagBytes bytes ++ (numbersIn bytes ++ (byteAt bytes PROGRESS ∷ byteAt bytes (PROGRESS + 1) ∷ byteAt bytes (PROGRESS + 2) ∷ []))) ≡ bytes
 put-back = by-elements 0 BYTES _ (λ f. refl)
 
 pub flag-bytes-long : (bytes : List ℕ) → length bytes ≡ BYTES → length (flagBytes bytes) ≡ 31
@@ -185,7 +185,7 @@ flag-bytes-long = by-elements 0 BYTES _ (λ f. refl)
 flags-long : (bytes : List ℕ) → length bytes ≡ BYTES → length (map isSet (flagBytes bytes)) ≡ 31
 flags-long = by-elements 0 BYTES _ (λ f. refl)
 
-numbers-long : (bytes : List ℕ) → length bytes ≡ BYTES → length (numbersIn bytes) ≡ 16
+numbers-long : (bytes : List ℕ) → length bytes ≡ BYTES → length (numbersIn bytes) ≡ PROGRESS - NUMBERS
 numbers-long = by-elements 0 BYTES _ (λ f. refl)
 
 pub saved-loaded : (bytes : List ℕ) → verdictOn bytes ≡ Whole → saved (stateIn bytes) ≡ bytes
@@ -196,7 +196,7 @@ saved-loaded bytes e =
     (ap (map flagByte) (flags-of (map isSet (flagBytes bytes)) (numbersIn bytes) (flags-long bytes (t .long))) ∙ flags-back (flagBytes bytes) (t .flags))
     ∙ ap (λ n. image LAYOUT (flagBytes bytes) n (progressBytes progress)) (numbers-of (map isSet (flagBytes bytes)) (numbersIn bytes) (numbers-long bytes (t .long)))
     ∙ ap (image LAYOUT (flagBytes bytes) (numbersIn bytes)) (progress-bytes-back _ _ _ (t .progress))
-    ∙ ap (λ v. image v (flagBytes bytes) (numbersIn bytes) (byteAt bytes 48 ∷ byteAt bytes 49 ∷ byteAt bytes 50 ∷ [])) (sym (t .version))
+    ∙ ap (λ v. image v (flagBytes bytes) (numbersIn bytes) (byteAt bytes PROGRESS ∷ byteAt bytes (PROGRESS + 1) ∷ byteAt bytes (PROGRESS + 2) ∷ [])) (sym (t .version))
     ∙ put-back bytes (t .long)
   where
     image : ℕ → List ℕ → List ℕ → List ℕ → List ℕ
@@ -206,7 +206,7 @@ saved-loaded bytes e =
     machine = machineBy (map isSet (flagBytes bytes)) (numbersIn bytes)
 
     progress : Progress
-    progress = progressBy (byteAt bytes 48) (byteAt bytes 49) (byteAt bytes 50)
+    progress = progressBy (byteAt bytes PROGRESS) (byteAt bytes (PROGRESS + 1)) (byteAt bytes (PROGRESS + 2))
 
 -- So a state has one image: two images of one state are the same bytes.
 pub one-image : (xs ys : List ℕ) → verdictOn xs ≡ Whole → verdictOn ys ≡ Whole → stateIn xs ≡ stateIn ys → xs ≡ ys

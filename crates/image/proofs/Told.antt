@@ -9,7 +9,7 @@ use lib.ListN.{length, getD, drop}
 use lib.Seq.{getD-take, getD-drop}
 use borrow.Author.Tests.{leb-true, leb-false, eqb-true}
 use Rattle.bay.proofs.Taut.{pick}
-use Rattle.image.specs.Layout.{LAYOUT, BYTES}
+use Rattle.image.specs.Layout.{LAYOUT, BYTES, PROGRESS}
 use Rattle.image.specs.Load.{byteAt, flagBytes, allFlags, firstOver, progressVerdict, sizedVerdict, verdictOn}
 use Rattle.image.specs.declared.Verdict.{Verdict}
 use Rattle.image.specs.declared.Verdict.the-variants.{Whole, WrongLength, UnknownVersion, NotAFlag, UnknownProgress, NotUsed}
@@ -80,11 +80,11 @@ flag-told bytes i e =
   where
     go :
         (l : Bool) → eqb (length bytes) BYTES ≡ l → (v f : Bool) → allFlags (flagBytes bytes) ≡ f
-        → cond l (cond v (cond f (progressVerdict (byteAt bytes 48) (byteAt bytes 49) (byteAt bytes 50)) (NotAFlag (1 + firstOver (flagBytes bytes)))) UnknownVersion) WrongLength ≡ NotAFlag i
+        → cond l (cond v (cond f (progressVerdict (byteAt bytes PROGRESS) (byteAt bytes (PROGRESS + 1)) (byteAt bytes (PROGRESS + 2))) (NotAFlag (1 + firstOver (flagBytes bytes)))) UnknownVersion) WrongLength ≡ NotAFlag i
         → 1 < byteAt bytes i
     go false l v f q e = absurd (false≢true (ap names-flag e))
     go true l false f q e = absurd (false≢true (ap names-flag e))
-    go true l true true q e = absurd (false≢true (sym (no-flag (byteAt bytes 48) (byteAt bytes 49) (byteAt bytes 50)) ∙ ap names-flag e))
+    go true l true true q e = absurd (false≢true (sym (no-flag (byteAt bytes PROGRESS) (byteAt bytes (PROGRESS + 1)) (byteAt bytes (PROGRESS + 2))) ∙ ap names-flag e))
     go true l true false q e =
         let t = first-told (flagBytes bytes) q in
         let within : firstOver (flagBytes bytes) < 31 = omega (arith, t .within, flag-bytes-long bytes (eqb-true _ BYTES l)) in

@@ -4,10 +4,10 @@ use Prim.Native.Nat.{ℕ}
 
 -- The version rises whenever a byte, what it may hold or the length changes.
 abbrev pub LAYOUT : ℕ
-LAYOUT = 2
+LAYOUT = 3
 
 abbrev pub BYTES : ℕ
-BYTES = 51
+BYTES = 54
 
 -- Where the flags begin, where they end and the numbers begin, and where these end and the command in progress begins.
 abbrev pub FLAGS : ℕ
@@ -17,4 +17,4 @@ abbrev pub NUMBERS : ℕ
 NUMBERS = 32
 
 abbrev pub PROGRESS : ℕ
-PROGRESS = 48
+PROGRESS = 51

@@ -75,7 +75,7 @@ isImage bytes = whole (verdictOn bytes)
 abbrev pub isSet : ℕ → Bool
 isSet b = eqb b 1
 
--- A bay from its fourteen flags and its six numbers.
+-- A bay from its fourteen flags and its seven numbers.
 abbrev pub bayBy : List Bool → List ℕ → Bay
 bayBy flags numbers =
     record {
@@ -96,6 +96,7 @@ bayBy flags numbers =
             «pwr_ctl» = flag 13;
           };
       pulse = number 5;
+      wait = number 6;
     }
   where
     flag : ℕ → Bool
@@ -116,9 +117,10 @@ machineBy flags numbers =
             seclock = getD flags 2 false;
             «bay_count» = getD numbers 1 0;
             «lock_time» = getD numbers 2 0;
+            «wait_time» = getD numbers 3 0;
           };
-      phase = getD numbers 3 0;
-      bays = bayBy (take 14 (drop 3 flags)) (take 6 (drop 4 numbers)) ∷ bayBy (drop 17 flags) (drop 10 numbers) ∷ [];
+      phase = getD numbers 4 0;
+      bays = bayBy (take 14 (drop 3 flags)) (take 7 (drop 5 numbers)) ∷ bayBy (drop 17 flags) (drop 12 numbers) ∷ [];
     }
 
 abbrev pub progressBy : ℕ → ℕ → ℕ → Progress

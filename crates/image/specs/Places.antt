@@ -30,17 +30,19 @@ bayPlaces b flags numbers =
     ∷ (numbers + 3, b .state)
     ∷ (numbers + 4, b .control .request)
     ∷ (numbers + 5, b .pulse)
+    ∷ (numbers + 6, b .wait)
     ∷ []
 
 abbrev pub placesOf : Machine → List (ℕ × ℕ)
 placesOf m =
-    ((0, 2)
+    ((0, 3)
     ∷ (1, flagByte (m .started))
     ∷ (2, flagByte (m .shared .«dbccr_written»))
     ∷ (3, flagByte (m .shared .seclock))
     ∷ (32, m .straps)
     ∷ (33, m .shared .«bay_count»)
     ∷ (34, m .shared .«lock_time»)
-    ∷ (35, m .phase)
+    ∷ (35, m .shared .«wait_time»)
+    ∷ (36, m .phase)
     ∷ [])
-    ++ (bayPlaces (bay0 (m .bays)) 4 36 ++ bayPlaces (bay1 (m .bays)) 18 42)
+    ++ (bayPlaces (bay0 (m .bays)) 4 37 ++ bayPlaces (bay1 (m .bays)) 18 44)

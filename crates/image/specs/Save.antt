@@ -14,7 +14,7 @@ use Rattle.image.specs.Layout.{LAYOUT}
 abbrev pub flagByte : Bool → ℕ
 flagByte b = cond b 1 0
 
--- The fourteen flags and the six numbers of a bay.
+-- The fourteen flags and the seven numbers of a bay.
 abbrev pub bayFlags : Bay → List Bool
 bayFlags b =
     level b N1394 ∷ level b NUSB ∷ level b NREMREQ ∷ acceptedLevel b N1394 ∷ acceptedLevel b NUSB ∷ acceptedLevel b NREMREQ ∷ b .«n_sl»
@@ -22,7 +22,7 @@ bayFlags b =
     ∷ b .control .«remevtwak_en» ∷ b .control .«pwr_ctl» ∷ []
 
 abbrev pub bayNumbers : Bay → List ℕ
-bayNumbers b = count b N1394 ∷ count b NUSB ∷ count b NREMREQ ∷ b .state ∷ b .control .request ∷ b .pulse ∷ []
+bayNumbers b = count b N1394 ∷ count b NUSB ∷ count b NREMREQ ∷ b .state ∷ b .control .request ∷ b .pulse ∷ b .wait ∷ []
 
 -- Those of a machine.
 abbrev pub flagsOf : Machine → List Bool
@@ -31,7 +31,7 @@ flagsOf m =
 
 abbrev pub numbersOf : Machine → List ℕ
 numbersOf m =
-    m .straps ∷ m .shared .«bay_count» ∷ m .shared .«lock_time» ∷ m .phase ∷ (bayNumbers (bay0 (m .bays)) ++ bayNumbers (bay1 (m .bays)))
+    m .straps ∷ m .shared .«bay_count» ∷ m .shared .«lock_time» ∷ m .shared .«wait_time» ∷ m .phase ∷ (bayNumbers (bay0 (m .bays)) ++ bayNumbers (bay1 (m .bays)))
 
 -- Which command in progress, and the bytes that it holds, or 0.
 unfoldable pub progressBytes : Progress → List ℕ

@@ -7,9 +7,9 @@ use dock::Controller;
 // ---- the layout: its version, then the flags, each a byte of 0 or 1, then the numbers, then the command in progress
 
 // The version rises whenever a byte, what it may hold or the length changes.
-pub const LAYOUT: u8 = 2;
+pub const LAYOUT: u8 = 3;
 
-pub const BYTES: usize = 51;
+pub const BYTES: usize = 54;
 
 pub const VERSION: usize = 0;
 
@@ -31,18 +31,20 @@ pub const BAY_COUNT: usize = 33;
 
 pub const LOCK_TIME: usize = 34;
 
-pub const PHASE: usize = 35;
+pub const WAIT_TIME: usize = 35;
 
-pub const NUMBERS_0: usize = 36;
+pub const PHASE: usize = 36;
 
-pub const NUMBERS_1: usize = 42;
+pub const NUMBERS_0: usize = 37;
+
+pub const NUMBERS_1: usize = 44;
 
 // The command in progress: which it is, and the two bytes that it may hold.
-pub const PROGRESS: usize = 48;
+pub const PROGRESS: usize = 51;
 
-pub const FIRST: usize = 49;
+pub const FIRST: usize = 52;
 
-pub const SECOND: usize = 50;
+pub const SECOND: usize = 53;
 
 // ---- which command is in progress; from REGISTER on it holds a byte, and at DATA two
 
@@ -91,6 +93,8 @@ pub const STATE: usize = 3;
 pub const REQUEST: usize = 4;
 
 pub const PULSE: usize = 5;
+
+pub const WAIT: usize = 6;
 
 // What bytes are.
 pub enum Verdict {

@@ -16,7 +16,7 @@ use machine::Shared;
 
 fn bay_from(flags: &[u8], numbers: &[u8]) -> Bay
     requires { ⌜ length (now flags) ≡ 14 ⌝ }
-    requires { ⌜ length (now numbers) ≡ 6 ⌝ }
+    requires { ⌜ length (now numbers) ≡ 7 ⌝ }
     ensures { λ r. ⌜ r ≡ bayBy (map isSet (now (flags .entry))) (now (numbers .entry)) ⌝ }
 {
     Bay {
@@ -48,6 +48,7 @@ fn bay_from(flags: &[u8], numbers: &[u8]) -> Bay
             pwr_ctl: flags[crate::PWR_CTL] == 1,
         },
         pulse: numbers[crate::PULSE],
+        wait: numbers[crate::WAIT],
     }
 }
 
@@ -71,6 +72,7 @@ fn machine_in(image: &[u8]) -> Machine
             seclock: image[crate::SECLOCK] == 1,
             bay_count: image[crate::BAY_COUNT],
             lock_time: image[crate::LOCK_TIME],
+            wait_time: image[crate::WAIT_TIME],
         },
         phase: image[crate::PHASE],
         bays: [first, second],

@@ -28,18 +28,18 @@ use Rattle.link.specs.Answer.{both}
 use Rattle.link.specs.Held.{begun, begunIn, answerIn, steppedIn, outcomeIn, batchedIn, recordsIn, readingIn, outputsIn}
 
 -- A state is begun exactly where its length is an image's; else the answer is refusal 1.
-pub begin-exactly : (n : ℕ) → ((begun n ≡ 0) ↔ (n ≡ 51)) × ((begun n ≡ 1 * 65536) ↔ (n ≢ 51))
+pub begin-exactly : (n : ℕ) → ((begun n ≡ 0) ↔ (n ≡ 54)) × ((begun n ≡ 1 * 65536) ↔ (n ≢ 54))
 unfolding begun
-begin-exactly n = go (eqb n 51) refl
+begin-exactly n = go (eqb n 54) refl
   where
-    go : (b : Bool) → eqb n 51 ≡ b → ((cond b (both 0 0) (both 1 0) ≡ 0) ↔ (n ≡ 51)) × ((cond b (both 0 0) (both 1 0) ≡ 1 * 65536) ↔ (n ≢ 51))
-    go true e = ((λ h. eqb-true n 51 e, λ h. refl), (λ h. absurd (omega (arith, h)), λ h. absurd (h (eqb-true n 51 e))))
-    go false e = ((λ h. absurd (omega (arith, h)), λ h. absurd (eqb-false n 51 e h)), (λ h. eqb-false n 51 e, λ h. refl))
+    go : (b : Bool) → eqb n 54 ≡ b → ((cond b (both 0 0) (both 1 0) ≡ 0) ↔ (n ≡ 54)) × ((cond b (both 0 0) (both 1 0) ≡ 1 * 65536) ↔ (n ≢ 54))
+    go true e = ((λ h. eqb-true n 54 e, λ h. refl), (λ h. absurd (omega (arith, h)), λ h. absurd (h (eqb-true n 54 e))))
+    go false e = ((λ h. absurd (omega (arith, h)), λ h. absurd (eqb-false n 54 e h)), (λ h. eqb-false n 54 e, λ h. refl))
 
 -- Only then are the bytes written: they are the image of a fresh controller; else they are as they came.
-pub begin-writes : (bytes : List ℕ) → (length bytes ≡ 51 → begunIn bytes ≡ saved freshController) × (length bytes ≢ 51 → begunIn bytes ≡ bytes)
+pub begin-writes : (bytes : List ℕ) → (length bytes ≡ 54 → begunIn bytes ≡ saved freshController) × (length bytes ≢ 54 → begunIn bytes ≡ bytes)
 unfolding begunIn
-begin-writes bytes = (λ h. rw (eq-eqb _ 51 h) refl, λ h. rw (ne-eqb _ 51 h) refl)
+begin-writes bytes = (λ h. rw (eq-eqb _ 54 h) refl, λ h. rw (ne-eqb _ 54 h) refl)
 
 module _ (bytes : List ℕ) where
   -- What holds of bytes that are an image, and of any others, holds of all.

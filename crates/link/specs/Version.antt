@@ -1,5 +1,5 @@
--- The library's version: 3.1, its two numbers side by side.
-use Prim.Native.Nat.{ℕ, _+_, _*_}
+-- The library's version: 4.0, its two numbers side by side.
+use Prim.Native.Nat.{ℕ, _*_}
 
 abbrev pub VERSION : ℕ
-VERSION = 3 * 256 + 1
+VERSION = 4 * 256

@@ -39,19 +39,19 @@ before-in (n ∷ ns) (l ∷ ls) same i less = go (leb n l) refl i less (before-i
     go true e (suc j) h others = others j (omega (arith, rw e at h))
     go false e j h others = absurd (omega (arith, rw e at h))
 
-module _ (flags : List Bool) (ns : List ℕ) (size : length ns ≡ 16) where
+module _ (flags : List Bool) (ns : List ℕ) (size : length ns ≡ 19) where
   -- The numbers of the bays, where the state has them.
-  of-bay-0 : (i : ℕ) → i < 6 → getD (take 6 (drop 4 ns)) i 0 ≡ getD ns (4 + i) 0
-  of-bay-0 i h = rw (getD-take 6 (drop 4 ns) i 0 h) (getD-drop 4 ns i 0)
+  of-bay-0 : (i : ℕ) → i < 7 → getD (take 7 (drop 5 ns)) i 0 ≡ getD ns (5 + i) 0
+  of-bay-0 i h = rw (getD-take 7 (drop 5 ns) i 0 h) (getD-drop 5 ns i 0)
 
-  of-bay-1 : (i : ℕ) → getD (drop 10 ns) i 0 ≡ getD ns (10 + i) 0
-  of-bay-1 i = getD-drop 10 ns i 0
+  of-bay-1 : (i : ℕ) → getD (drop 12 ns) i 0 ≡ getD ns (12 + i) 0
+  of-bay-1 i = getD-drop 12 ns i 0
 
-  all-fit : 16 ≤ firstOut ns lasts → fits (machineBy flags ns) ≡ true
+  all-fit : 19 ≤ firstOut ns lasts → fits (machineBy flags ns) ≡ true
   unfolding fits bayIn bayFit
   all-fit all =
       rw (
-        lt-ltb (getD ns 3 0) 200 (omega (arith, within 3 (omega arith))),
+        lt-ltb (getD ns 4 0) 200 (omega (arith, within 4 (omega arith))),
         le-leb (getD ns 0 0) 15 (within 0 (omega arith)),
         le-leb (getD ns 2 0) 3 (within 2 (omega arith)),
         le-leb (getD ns 1 0) 3 (within 1 (omega arith)),
@@ -67,28 +67,28 @@ module _ (flags : List Bool) (ns : List ℕ) (size : length ns ≡ 16) where
         of-bay-1 3,
         of-bay-1 4,
         of-bay-1 5,
-        lt-ltb (getD ns 4 0) 10 (omega (arith, within 4 (omega arith))),
         lt-ltb (getD ns 5 0) 10 (omega (arith, within 5 (omega arith))),
-        lt-ltb (getD ns 6 0) 5 (omega (arith, within 6 (omega arith))),
-        le-leb (getD ns 7 0) 4 (within 7 (omega arith)),
+        lt-ltb (getD ns 6 0) 10 (omega (arith, within 6 (omega arith))),
+        lt-ltb (getD ns 7 0) 5 (omega (arith, within 7 (omega arith))),
         le-leb (getD ns 8 0) 4 (within 8 (omega arith)),
-        le-leb (getD ns 9 0) 200 (within 9 (omega arith)),
-        lt-ltb (getD ns 10 0) 10 (omega (arith, within 10 (omega arith))),
-        lt-ltb (getD ns 11 0) 10 (omega (arith, within 11 (omega arith))),
-        lt-ltb (getD ns 12 0) 5 (omega (arith, within 12 (omega arith))),
-        le-leb (getD ns 13 0) 4 (within 13 (omega arith)),
-        le-leb (getD ns 14 0) 4 (within 14 (omega arith)),
-        le-leb (getD ns 15 0) 200 (within 15 (omega arith)),
+        le-leb (getD ns 9 0) 4 (within 9 (omega arith)),
+        le-leb (getD ns 10 0) 200 (within 10 (omega arith)),
+        lt-ltb (getD ns 12 0) 10 (omega (arith, within 12 (omega arith))),
+        lt-ltb (getD ns 13 0) 10 (omega (arith, within 13 (omega arith))),
+        lt-ltb (getD ns 14 0) 5 (omega (arith, within 14 (omega arith))),
+        le-leb (getD ns 15 0) 4 (within 15 (omega arith)),
+        le-leb (getD ns 16 0) 4 (within 16 (omega arith)),
+        le-leb (getD ns 17 0) 200 (within 17 (omega arith)),
       )
     where
-      within : (i : ℕ) → i < 16 → getD ns i 0 ≤ getD lasts i 0
+      within : (i : ℕ) → i < 19 → getD ns i 0 ≤ getD lasts i 0
       within i h = before-in ns lasts size i (omega arith)
 
   -- Of a state that isn't fit, the number at the place that is named is out of its range.
-  pub named-is-out : fits (machineBy flags ns) ≡ false → (firstOut ns lasts < 16) × (getD lasts (firstOut ns lasts) 0 < getD ns (firstOut ns lasts) 0)
-  named-is-out unfit = go (ltb (firstOut ns lasts) 16) refl
+  pub named-is-out : fits (machineBy flags ns) ≡ false → (firstOut ns lasts < 19) × (getD lasts (firstOut ns lasts) 0 < getD ns (firstOut ns lasts) 0)
+  named-is-out unfit = go (ltb (firstOut ns lasts) 19) refl
     where
-      go : (b : Bool) → ltb (firstOut ns lasts) 16 ≡ b
-          → (firstOut ns lasts < 16) × (getD lasts (firstOut ns lasts) 0 < getD ns (firstOut ns lasts) 0)
-      go true e = let less : firstOut ns lasts < 16 = ltb-true (firstOut ns lasts) 16 e in (less, ends-out ns lasts size (omega arith))
-      go false e = absurd (true≢false (sym (all-fit (ltb-false (firstOut ns lasts) 16 e)) ∙ unfit))
+      go : (b : Bool) → ltb (firstOut ns lasts) 19 ≡ b
+          → (firstOut ns lasts < 19) × (getD lasts (firstOut ns lasts) 0 < getD ns (firstOut ns lasts) 0)
+      go true e = let less : firstOut ns lasts < 19 = ltb-true (firstOut ns lasts) 19 e in (less, ends-out ns lasts size (omega arith))
+      go false e = absurd (true≢false (sym (all-fit (ltb-false (firstOut ns lasts) 19 e)) ∙ unfit))

@@ -73,7 +73,7 @@ same-bytes (b ∷ bs) all =
 pub written-back : (bs : List ℕ) → Octets bs → length bs ≡ BYTES → pastedOf (hexOf bs) ≡ judged bs
 unfolding pastedOf
 written-back bs all size =
-    let digits : length (hexOf bs) ≡ 102 = omega (arith, two-each bs) in
+    let digits : length (hexOf bs) ≡ 2 * BYTES = omega (arith, two-each bs) in
     rw (eq-eqb _ _ (all-digits bs), digits, same-bytes bs all)
 
 -- A fit state that is written is read back; each number of it is a byte, as it is in the code.

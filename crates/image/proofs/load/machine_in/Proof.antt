@@ -7,7 +7,7 @@ use Rattle.image.proofs.load.machine_in.Statement.{statement}
 use Rattle.image.proofs.load.machine_in.Tie as tie
 
 returns : tie.Need-returns
-returns c = rw (c .before .before .before .before .before .before .before .bay-from2 .ensures, c .before .before .before .before .before .before .before .before .before .before .bay-from .ensures) (sym (machine-parts (now (c .before .before .before .before .before .before .before .before .before .before .before .before .before .before .args .image)) (c .before .before .before .before .before .before .before .before .before .before .before .before .before .before .pre)))
+returns c = rw (c .before .before .before .before .before .before .before .before .bay-from2 .ensures, c .before .before .before .before .before .before .before .before .before .before .before .bay-from .ensures) (sym (machine-parts (now (c .before .before .before .before .before .before .before .before .before .before .before .before .before .before .before .args .image)) (c .before .before .before .before .before .before .before .before .before .before .before .before .before .before .before .pre)))
 
 pub machine-in-spec : {M : Type 1} → statement M
 machine-in-spec =
@@ -27,6 +27,7 @@ machine-in-spec =
     (λ c. search needs)
     (λ c. search needs)
     (λ c κs. search needs)
+    (λ c. search needs)
     (λ c. search needs)
     (λ c. search needs)
     (λ c. search needs)

@@ -6,15 +6,16 @@ use mathlib.Core.Path.{_≡_, refl, sym, _∙_}
 use lib.ListN.{length, take, length-set}
 use lib.Seq.{take-all}
 use borrow.Author.Needs.{needs}
+use Rattle.image.specs.Layout.{BYTES}
 use Rattle.link.proofs.Copy.{one-more}
 use Rattle.link.proofs.held.put.Statement.{statement}
 use Rattle.link.proofs.held.put.Tie as tie
 
 abbrev Inv-loop : tie.InvT-loop
-Inv-loop state₀ image i₀ state i = (length state ≡ 51) × (i ≤ 51) × (take i state ≡ take i image)
+Inv-loop state₀ image i₀ state i = (length state ≡ BYTES) × (i ≤ BYTES) × (take i state ≡ take i image)
 
 abbrev μ-loop : tie.MeasureT-loop
-μ-loop state₀ image i₀ state i = 51 - i
+μ-loop state₀ image i₀ state i = BYTES - i
 
 loop-holds : tie.Need-loop-holds Inv-loop μ-loop
 loop-holds c = (c .pre .0, omega arith, refl)

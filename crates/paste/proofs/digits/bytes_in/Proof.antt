@@ -5,6 +5,7 @@ use native.Mathlib.Omega.{arith}
 use mathlib.Core.Path.{refl}
 use denote.Ref.{now}
 use borrow.Author.Needs.{needs}
+use Rattle.image.specs.Layout.{BYTES}
 use Rattle.paste.proofs.Passing.{Paired, paired-on, paired-end, each-digit}
 use Rattle.paste.proofs.digits.bytes_in.Statement.{statement}
 use Rattle.paste.proofs.digits.bytes_in.Tie as tie
@@ -13,7 +14,7 @@ abbrev Inv-loop : tie.InvT-loop
 Inv-loop text bytes₀ i₀ bytes i = Paired text bytes i
 
 abbrev μ-loop : tie.MeasureT-loop
-μ-loop text bytes₀ i₀ bytes i = 51 - i
+μ-loop text bytes₀ i₀ bytes i = BYTES - i
 
 loop-holds : tie.Need-loop-holds Inv-loop μ-loop
 loop-holds c = (omega arith, refl, refl)

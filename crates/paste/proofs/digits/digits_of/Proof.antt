@@ -4,6 +4,7 @@ use Prim.Native.Nat.{_-_}
 use native.Mathlib.Omega.{arith}
 use mathlib.Core.Path.{refl}
 use borrow.Author.Needs.{needs}
+use Rattle.image.specs.Layout.{BYTES}
 use Rattle.paste.proofs.Passing.{Written, written-on, written-end}
 use Rattle.paste.proofs.digits.digits_of.Statement.{statement}
 use Rattle.paste.proofs.digits.digits_of.Tie as tie
@@ -12,7 +13,7 @@ abbrev Inv-loop : tie.InvT-loop
 Inv-loop bytes text₀ i₀ text i = Written bytes text i
 
 abbrev μ-loop : tie.MeasureT-loop
-μ-loop bytes text₀ i₀ text i = 51 - i
+μ-loop bytes text₀ i₀ text i = BYTES - i
 
 loop-holds : tie.Need-loop-holds Inv-loop μ-loop
 loop-holds c = (omega arith, refl, refl)
