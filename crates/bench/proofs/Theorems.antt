@@ -1,5 +1,5 @@
 -- What a line does to the bench, over the definitions that `heed` meets. Assumes nothing.
-use Prim.Native.Nat.{ℕ}
+use Prim.Native.Nat.{ℕ, _*_}
 use native.Mathlib.Omega.{arith}
 use mathlib.Core.Bool.{Bool, true, false}
 use mathlib.Core.Path.{_≡_, refl}
@@ -30,6 +30,7 @@ use Rattle.dock.specs.Record.{freshController}
 use Rattle.dock.specs.Run.{after}
 use Rattle.dock.specs.Step.{stepOf}
 use Rattle.dock.specs.declared.Controller.{Controller}
+use Rattle.image.specs.Layout.{BYTES}
 use Rattle.image.specs.Load.{firstOver, progressVerdict, sizedVerdict, verdictOn, stateIn, loadOf}
 use Rattle.image.specs.Save.{saved}
 use Rattle.image.specs.Shape.{Shaped}
@@ -104,7 +105,7 @@ pub loads-back :
     → heeded (characters "load " ++ hexOf (saved s)) b .bench ≡ record { controller = s; address = b .address; levels = levelsIn (s .machine) }
 unfolding heeded obeyed loadedBy isFit
 loads-back s shaped octets fit b =
-    let digits : length (hexOf (saved s)) ≡ 102 = omega (arith, two-each (saved s), saved-length s) in
+    let digits : length (hexOf (saved s)) ≡ 2 * BYTES = omega (arith, two-each (saved s), saved-length s) in
     rw (
       load-line (hexOf (saved s)) (one-word (saved s)) (omega arith),
       load-argument (hexOf (saved s)) (one-word (saved s)),

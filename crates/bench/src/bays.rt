@@ -1,6 +1,7 @@
 // What can be seen of the bays, in words: state, device, power, lock and lamps, and the interrupt.
 use crate::Seen;
 use crate::say::say;
+use crate::say::say_count;
 use crate::say::say_either;
 use crate::say::say_if;
 use bay::Bay;
@@ -16,11 +17,15 @@ pub(crate) fn read(controller: Controller, register: u8) -> u8 {
 
 // What is to be seen of a controller now.
 pub(crate) fn look(controller: Controller) -> Seen {
+    let machine = controller.machine;
+    let bays = machine.bays;
     Seen {
-        started: controller.machine.started,
+        started: machine.started,
         one_bay: read(controller, Machine::DBCCR) % 4 == Shared::ONE_BAY,
         bstr_0: read(controller, Machine::BSTR_0),
         bstr_1: read(controller, Machine::BSTR_1),
+        wait_0: bays[0].wait,
+        wait_1: bays[1].wait,
         outputs: controller.outputs().value(),
     }
 }
@@ -47,10 +52,19 @@ pub(crate) fn say_bay(bstr: u8) {
     say_if(has(bstr, 128), b", nSL low");
 }
 
-// A bay's line: its BSTR, then its power, lock pin, green and yellow, bit 3 to 0.
-fn tell_bay(name: &[u8], bstr: u8, pins: u8) {
+fn say_wait(wait: u8) {
+    if wait != 0 {
+        say(b", seats for ");
+        say_count(wait as u64);
+        say_either(wait == 1, b" tick more", b" ticks more");
+    }
+}
+
+// A bay's line: its BSTR and its wait, then its power, lock pin, green and yellow, bit 3 to 0.
+fn tell_bay(name: &[u8], bstr: u8, wait: u8, pins: u8) {
     say(name);
     say_bay(bstr);
+    say_wait(wait);
     say_either(has(pins, 8), b"; power on", b"; power off");
     say_either(has(pins, 4), b", lock pin high", b", lock pin low");
     say_either(has(pins, 2), b", green on", b", green off");
@@ -58,14 +72,24 @@ fn tell_bay(name: &[u8], bstr: u8, pins: u8) {
 }
 
 fn tell_bay_0(seen: Seen) {
-    tell_bay(b"  bay 0: ", seen.bstr_0, (seen.outputs / 32 % 16) as u8);
+    tell_bay(
+        b"  bay 0: ",
+        seen.bstr_0,
+        seen.wait_0,
+        (seen.outputs / 32 % 16) as u8,
+    );
 }
 
 fn tell_bay_1(seen: Seen) {
     if seen.one_bay {
         say(b"  bay 1: closed\n");
     } else {
-        tell_bay(b"  bay 1: ", seen.bstr_1, (seen.outputs / 2 % 16) as u8);
+        tell_bay(
+            b"  bay 1: ",
+            seen.bstr_1,
+            seen.wait_1,
+            (seen.outputs / 2 % 16) as u8,
+        );
     }
 }
 
@@ -91,14 +115,22 @@ pub(crate) fn tell_all(seen: Seen) {
     tell_interrupt(seen);
 }
 
+// A wait begins or is over; that it falls tick by tick is no news.
+fn wait_differs(before: u8, after: u8) -> bool {
+    (before == 0) != (after == 0)
+}
+
 fn bay_0_differs(before: Seen, after: Seen) -> bool {
-    (before.bstr_0 != after.bstr_0) | (before.outputs / 32 != after.outputs / 32)
+    (before.bstr_0 != after.bstr_0)
+        | (before.outputs / 32 != after.outputs / 32)
+        | wait_differs(before.wait_0, after.wait_0)
 }
 
 fn bay_1_differs(before: Seen, after: Seen) -> bool {
     (before.one_bay != after.one_bay)
         | (before.bstr_1 != after.bstr_1)
         | (before.outputs / 2 % 16 != after.outputs / 2 % 16)
+        | wait_differs(before.wait_1, after.wait_1)
 }
 
 fn interrupt_differs(before: Seen, after: Seen) -> bool {

@@ -34,7 +34,7 @@ fn say_use(verb: Verb) {
         Verb::Regs => say(b"regs            tells every register\n"),
         Verb::Help => say(b"help            tells these lines\n"),
         Verb::Save => say(b"save            tells the dock's state as an image, in hex\n"),
-        Verb::Load => say(b"load 0201..     goes on from an image, as `save` tells it\n"),
+        Verb::Load => say(b"load 0301..     goes on from an image, as `save` tells it\n"),
     }
 }
 

@@ -49,6 +49,9 @@ struct Seen {
     one_bay: bool,
     bstr_0: u8,
     bstr_1: u8,
+    // For how many ticks more each bay's device seats.
+    wait_0: u8,
+    wait_1: u8,
     outputs: u16,
 }
 

@@ -6,6 +6,7 @@ use crate::bays::tell_unstarted;
 use crate::say::say;
 use crate::say::say_byte;
 use crate::say::say_count;
+use crate::say::say_either;
 use crate::say::say_if;
 use bits::has;
 use bus::Reply;
@@ -56,6 +57,17 @@ fn say_letr(letr: u8) {
     say(b" ticks");
 }
 
+// How long a device seats before its bay is Inserted.
+fn say_wait(wait: u8) {
+    if wait == 0 {
+        say(b": Inserted at once");
+    } else {
+        say(b": Inserted after ");
+        say_count(wait as u64);
+        say_either(wait == 1, b" tick", b" ticks");
+    }
+}
+
 fn say_name(register: u8) {
     match register {
         Machine::VENDOR_LOW => say(b" vendor, low byte,"),
@@ -67,6 +79,7 @@ fn say_name(register: u8) {
         Machine::BSTR_1 => say(b" BSTR of bay 1"),
         Machine::BCER_1 => say(b" BCER of bay 1"),
         Machine::LETR => say(b" LETR"),
+        Machine::WAIT => say(b" insertion wait"),
         _ => {}
     }
 }
@@ -77,6 +90,7 @@ fn say_meaning(register: u8, value: u8) {
         Machine::BSTR_0 | Machine::BSTR_1 => say_bstr(value),
         Machine::BCER_0 | Machine::BCER_1 => say_bcer(value),
         Machine::LETR => say_letr(value),
+        Machine::WAIT => say_wait(value),
         _ => {}
     }
 }
@@ -124,4 +138,5 @@ pub(crate) fn tell_registers(controller: Controller) {
     tell_now(controller, Machine::BSTR_1);
     tell_now(controller, Machine::BCER_1);
     tell_now(controller, Machine::LETR);
+    tell_now(controller, Machine::WAIT);
 }

@@ -80,6 +80,7 @@ pub(crate) fn same_bay(a: Bay, b: Bay) -> bool {
         & (a.devstschg == b.devstschg)
         & same_control(a.control, b.control)
         & (a.pulse == b.pulse)
+        & (a.wait == b.wait)
 }
 
 fn same_shared(a: Shared, b: Shared) -> bool {
@@ -87,6 +88,7 @@ fn same_shared(a: Shared, b: Shared) -> bool {
         & (a.seclock == b.seclock)
         & (a.bay_count == b.bay_count)
         & (a.lock_time == b.lock_time)
+        & (a.wait_time == b.wait_time)
 }
 
 fn same_machine(a: Machine, b: Machine) -> bool {

@@ -39,6 +39,8 @@ use states::with_pulse;
 use states::with_request;
 use states::with_state;
 use states::with_straps;
+use states::with_wait;
+use states::with_wait_time;
 
 fn two_data_bytes() {
     let c = byte(byte(start(reset(0xC0BF)), 0x90), 0x14);
@@ -179,6 +181,28 @@ fn count_running_at_rest() {
     line();
 }
 
+fn wait_of(c: Controller) {
+    let b = bay(c, 0);
+    put(b", wait ");
+    decimal(b.wait);
+}
+
+fn wait_without_device() {
+    let c = with_wait(reset(0xC0FF), 0, 2);
+    wait_of(c);
+    let d = tick(c);
+    wait_of(d);
+    reads(d, 0x10);
+    let e = tick(d);
+    wait_of(e);
+    reads(e, 0x10);
+    drives(e);
+    let f = write(e, 0x14, 0x81);
+    reads(f, 0x14);
+    drives(f);
+    line();
+}
+
 fn closed_and_not_empty() {
     let open = write(reset(0xC0FB), 0x1C, 0x24);
     reads(open, 0x18);
@@ -245,6 +269,16 @@ fn bay_limits(c: Controller, i: u8) {
     );
 }
 
+// 42h and a wait hold any byte.
+fn any_wait(c: Controller) {
+    put(b"wait 255 of either bay and of 42h,");
+    let d = with_wait(with_wait(c, 0, 255), 1, 255);
+    let e = tick(with_wait_time(d, 255));
+    wait_of(e);
+    reads(e, 0x42);
+    line();
+}
+
 fn limits(c: Controller) {
     limit(b"phase", 199, with_phase(c, 199), with_phase(c, 200));
     limit(b"straps", 15, with_straps(c, 15), with_straps(c, 16));
@@ -254,6 +288,7 @@ fn limits(c: Controller) {
     bay_limits(c, 0);
     put(b"bay 1:\n");
     bay_limits(c, 1);
+    any_wait(c);
 }
 
 fn main() {
@@ -279,6 +314,7 @@ fn main() {
     put(b"Fit states that no event reaches\n");
     enabled_without_device();
     count_running_at_rest();
+    wait_without_device();
     closed_and_not_empty();
     read_open_before_reset();
     put(b"Each field of started at its last fit value, and one past it\n");

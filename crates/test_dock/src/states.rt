@@ -18,6 +18,11 @@ pub(crate) fn with_lock_time(mut c: Controller, lock_time: u8) -> Controller {
     c
 }
 
+pub(crate) fn with_wait_time(mut c: Controller, wait_time: u8) -> Controller {
+    c.machine.shared.wait_time = wait_time;
+    c
+}
+
 pub(crate) fn with_bay_count(mut c: Controller, bay_count: u8) -> Controller {
     c.machine.shared.bay_count = bay_count;
     c
@@ -54,6 +59,12 @@ pub(crate) fn with_request(c: Controller, i: u8, request: u8) -> Controller {
 pub(crate) fn with_pulse(c: Controller, i: u8, pulse: u8) -> Controller {
     let mut b = bay(c, i);
     b.pulse = pulse;
+    with_bay(c, i, b)
+}
+
+pub(crate) fn with_wait(c: Controller, i: u8, wait: u8) -> Controller {
+    let mut b = bay(c, i);
+    b.wait = wait;
     with_bay(c, i, b)
 }
 
