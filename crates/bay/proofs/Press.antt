@@ -1,5 +1,5 @@
 -- A press that a TICK accepts: what it sets and what not, and a write that follows it, by the two tables of moves. Assumes nothing.
-use Prim.Native.Nat.{ℕ, _/_, _%_}
+use Prim.Native.Nat.{ℕ, _/_, _%_, _<_}
 use native.Mathlib.Omega.{arith}
 use mathlib.Core.Path.{_≡_, refl, sym, ap, _∙_}
 use mathlib.Core.Logic.{_⊎_, inl, inr}
@@ -49,13 +49,26 @@ empty-without-device b s p = go (eqb (b .state) 0) refl
     go true e = eqb-true (b .state) 0 e
     go false e = absurd (false≢true (sym p ∙ s .held (eqb-false (b .state) 0 e)))
 
--- A sound bay with no device has no wait.
-pub no-wait-without-device : (b : Bay) → Sound b → present b ≡ false → b .wait ≡ 0
-no-wait-without-device b h p = go (ltb 0 (b .wait)) refl
+-- A number that isn't above 0 is 0.
+pub none-above-0 : (n : ℕ) → (0 < n → ⊥) → n ≡ 0
+none-above-0 n h = go (ltb 0 n) refl
   where
-    go : (t : Bool) → ltb 0 (b .wait) ≡ t → b .wait ≡ 0
-    go true e = absurd (false≢true (sym p ∙ h .seating (ltb-true 0 (b .wait) e) .1))
-    go false e = omega (arith, ltb-false 0 (b .wait) e)
+    go : (t : Bool) → ltb 0 n ≡ t → n ≡ 0
+    go true e = absurd (h (ltb-true 0 n e))
+    go false e = omega (arith, ltb-false 0 n e)
+
+-- So it has no wait either.
+pub no-wait-without-device : (b : Bay) → Sound b → present b ≡ false → b .wait ≡ 0
+no-wait-without-device b h p = none-above-0 (b .wait) (λ l. false≢true (sym p ∙ h .seating l .1))
+
+-- A wait that begins where none runs has the ticks of 42h.
+pub begun-from-0 : (ticks : ℕ) → begun ticks 0 ≡ ticks
+unfolding begun
+begun-from-0 ticks = go (eqb ticks 0) refl
+  where
+    go : (t : Bool) → eqb ticks 0 ≡ t → cond t 0 ticks ≡ ticks
+    go true z = sym (eqb-true ticks 0 z)
+    go false z = refl
 
 -- A device that arrives changes a presence bit.
 bit-changes :
@@ -78,22 +91,18 @@ pub record Arrived (s : Setting) (before after : Bay) : Type 0 where
   pub told : after .devstschg ≡ true
 
 pub arrival : (s : Setting) (b : Bay) → b .state ≡ 0 → b .wait ≡ 0 → present b ≡ false → present (tickedBay s b) ≡ true → Arrived s b (tickedBay s b)
-unfolding tickedBay movedBay stateAfter waitAfter inserts begun inUse
+unfolding tickedBay movedBay stateAfter waitAfter inserts inUse
 arrival s b e w p q =
     let device = sym (present-after s b) ∙ q in
     record {
       moved = rw (p, device, e, w, and-false) (moved (b .control .«devstschg_en») (eqb (s .«wait_ticks») 0));
-      waits = rw (p, device, w, whole (eqb (s .«wait_ticks») 0) refl);
+      waits = rw (p, device, w, begun-from-0 (s .«wait_ticks»));
       told = change-told s b ∙ rw (p, bit-changes s b p q, and-false) (or-true (b .devstschg));
     }
   where
     moved : (en z : Bool) → _≡_ {A = ℕ} (cond (cond en z false) 1 0) (cond (en && z) 1 0)
     moved true z = refl
     moved false z = refl
-
-    whole : (t : Bool) → eqb (s .«wait_ticks») 0 ≡ t → cond t 0 (s .«wait_ticks») ≡ s .«wait_ticks»
-    whole true z = sym (eqb-true (s .«wait_ticks») 0 z)
-    whole false z = refl
 
 -- A press in the TICK in which a device arrives sets REMREQ_STS, and the arrival is the one move, if it makes one.
 pub record WithArrival (s : Setting) (before after : Bay) : Type 0 where

@@ -6,7 +6,7 @@ use mathlib.Core.Path.{_≡_, refl, sym, ap, _∙_}
 use mathlib.Core.Bool.{Bool, true, false, not, cond, _&&_, _||_, Bool·beq, and-eq-true-iff, and-true, and-false, false≢true}
 use mathlib.Core.List.{List, [], _∷_}
 use lib.Dec.{eqb, ltb, leb}
-use borrow.Author.Tests.{eqb-true, ltb-true, ltb-false, not-true, not-false}
+use borrow.Author.Tests.{not-true, not-false}
 use Rattle.bits.specs.Bits.{bit}
 use Rattle.bay.specs.Record.{present}
 use Rattle.bay.specs.Moves.{begun, inUse, tickedBay}
@@ -22,6 +22,7 @@ use Rattle.bay.specs.declared.Setting.{Setting}
 use Rattle.bay.proofs.Taut.{below-taut, same}
 use Rattle.bay.proofs.Laws.{removal, stayed, wait-ticked, pressed-sets, change-told, sampled}
 use Rattle.bay.proofs.Named.{bstr-clears}
+use Rattle.bay.proofs.Press.{none-above-0, begun-from-0}
 use Rattle.bay.proofs.Sound.{sampled-sound, ticked-sound, bstr-written-sound, controlled-sound}
 
 -- ---- in every bay: by a write; what a TICK makes of it is `wait-ticked` of Laws
@@ -62,20 +63,15 @@ pub record Found (s : Setting) (after : Bay) : Type 0 where
 pub found :
     (c : Control) (s : Setting) (b : Bay) → Sound b → present b ≡ true → b .state ≡ 0 → b .control .«devstschg_en» ≡ false
     → c .«devstschg_en» ≡ true → asks c ≡ false → Found s (controlledBay c s b)
-unfolding controlledBay stateWritten waitWritten finds begun inUse
+unfolding controlledBay stateWritten waitWritten finds inUse
 found c s b h p e off on none =
     record {
       moved = rw (p, none, on, off, e, and-false);
-      waits = rw (p, none, on, off, e, none-yet (ltb 0 (b .wait)) refl) (whole (eqb (s .«wait_ticks») 0) refl);
+      waits = rw (p, none, on, off, e, none-yet) (begun-from-0 (s .«wait_ticks»));
     }
   where
-    none-yet : (t : Bool) → ltb 0 (b .wait) ≡ t → b .wait ≡ 0
-    none-yet true l = absurd (false≢true (sym off ∙ h .seating (ltb-true 0 (b .wait) l) .2))
-    none-yet false l = omega (arith, ltb-false 0 (b .wait) l)
-
-    whole : (t : Bool) → eqb (s .«wait_ticks») 0 ≡ t → cond t 0 (s .«wait_ticks») ≡ s .«wait_ticks»
-    whole true z = sym (eqb-true (s .«wait_ticks») 0 z)
-    whole false z = refl
+    none-yet : b .wait ≡ 0
+    none-yet = none-above-0 (b .wait) (λ l. false≢true (sym off ∙ h .seating l .2))
 
 -- ---- one that runs
 

@@ -32,7 +32,8 @@ waitWrittenBy v s b =
 
 -- ---- one that runs
 
--- What breaks it off: the device leaves, DEVSTSCHG_EN is written 0, or a driver asks for a state.
+-- What breaks it off: the device leaves, DEVSTSCHG_EN is written 0, or a driver asks for a state. (So do RESET and the closing of the bay,
+-- which make another bay of it.)
 unfoldable pub breaks : Happens → Bay → Bool
 breaks (tick s) b = gone s b
 breaks (pins levels) b = false

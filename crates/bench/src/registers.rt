@@ -58,7 +58,7 @@ fn say_letr(letr: u8) {
 }
 
 // How long a device seats before its bay is Inserted.
-fn say_wait(wait: u8) {
+fn say_wait_time(wait: u8) {
     if wait == 0 {
         say(b": Inserted at once");
     } else {
@@ -90,7 +90,7 @@ fn say_meaning(register: u8, value: u8) {
         Machine::BSTR_0 | Machine::BSTR_1 => say_bstr(value),
         Machine::BCER_0 | Machine::BCER_1 => say_bcer(value),
         Machine::LETR => say_letr(value),
-        Machine::WAIT => say_wait(value),
+        Machine::WAIT => say_wait_time(value),
         _ => {}
     }
 }
