@@ -1,12 +1,16 @@
 -- 42h and a bay's wait after each act are what the tables say, in every machine: from what becomes of the bay. Assumes nothing.
-use Prim.Native.Nat.{ℕ}
-use mathlib.Core.Path.{_≡_, refl, ap, _∙_}
+use Prim.Native.Nat.{ℕ, _<_}
+use native.Mathlib.Omega.{arith}
+use mathlib.Core.Path.{_≡_, refl, sym, ap, _∙_}
 use mathlib.Core.Bool.{Bool, true, false, not, cond, _&&_, and-eq-true-iff}
 use lib.Dec.{eqb}
-use borrow.Author.Tests.{eqb-true, eq-eqb}
+use borrow.Author.Tests.{eqb-true, eq-eqb, ne-eqb}
+use Rattle.bits.specs.Bits.{bit}
 use Rattle.bay.specs.declared.Bay.{Bay}
-use Rattle.bay.specs.Record.{emptyBay, resetBay}
-use Rattle.bay.specs.Waits.{waitWrittenBy}
+use Rattle.bay.specs.Record.{present, emptyBay, resetBay}
+use Rattle.bay.specs.Moves.{tickedBay}
+use Rattle.bay.specs.Table.{asksNothing}
+use Rattle.bay.specs.Waits.{waitTicked, waitWrittenBy}
 use Rattle.bay.proofs.Taut.{pick}
 use Rattle.bay.proofs.Laws.{wait-ticked, sampled}
 use Rattle.bay.proofs.Named.{bstr-clears}
@@ -20,6 +24,7 @@ use Rattle.machine.specs.declared.Machine.{Machine}
 use Rattle.machine.specs.declared.Shared.{Shared}
 use Rattle.machine.specs.declared.Act.{Act}
 use Rattle.machine.specs.declared.Act.the-variants.{Write, Read, Pins, Tick, Reset}
+use Rattle.machine.proofs.Choice.{chosen}
 use Rattle.machine.proofs.After.{bay-after, of-write, written-shared, three}
 use Rattle.machine.proofs.Moves.{pins-keep}
 
@@ -72,3 +77,25 @@ wait-after Tick m i =
     ap (λ (b : Bay). b .wait) (bay-after Tick m i) ∙ of-picked (isOpen m i) _ _
     ∙ ap (λ n. cond (isOpen m i) n (waitOf m i)) (wait-ticked (settingOf m) (bayAt m i))
 wait-after (Reset straps levels short) m i = ap (λ (b : Bay). b .wait) (bay-after (Reset straps levels short) m i)
+
+-- ---- what a wait begins with: 42h
+
+module _ (m : Machine) (i : ℕ) (o : isOpen m i ≡ true) (above : 0 < waitTime m) where
+  above-0 : eqb (waitTime m) 0 ≡ false
+  above-0 = ne-eqb (waitTime m) 0 (λ e. omega (arith, e))
+
+  -- In the TICK of an arrival with DEVSTSCHG_EN.
+  pub arrival-begins :
+      bayAt m i .control .«devstschg_en» ≡ true → present (bayAt m i) ≡ false → present (bayAt (does Tick m) i) ≡ true → waitOf (does Tick m) i ≡ waitTime m
+  unfolding waitAfter waitTicked settingOf bayAfter
+  arrival-begins on p q =
+      let device : present (tickedBay (settingOf m) (bayAt m i)) ≡ true = sym (ap present (bay-after Tick m i ∙ chosen o _ _)) ∙ q in
+      wait-after Tick m i ∙ chosen o _ _ ∙ rw (p, device, on, above-0)
+
+  -- At the write of BCER that brings DEVSTSCHG_EN, bit 2, from 0 to 1 in Empty over a device and asks for nothing.
+  pub enable-begins :
+      (v : ℕ) → bit 2 v ≡ true → asksNothing v (bayAt m i) ≡ true → bayAt m i .control .«devstschg_en» ≡ false → bayAt m i .state ≡ 0
+      → present (bayAt m i) ≡ true → waitOf (does (Write (bcerAddress i) v) m) i ≡ waitTime m
+  unfolding waitAfter waitWrittenBy settingOf
+  enable-begins v on none off e p =
+      wait-after (Write (bcerAddress i) v) m i ∙ rw (eq-eqb (bcerAddress i) (bcerAddress i) refl) (chosen o _ _ ∙ rw (on, none, p, eq-eqb (bayAt m i .state) 0 e, off, above-0))
