@@ -31,7 +31,7 @@ enum { REMREQ_STS = 0x08, DEVSTSCHG = 0x04 };
 enum { LOCK_CTL = 0x80, REQUEST = 0x70, REMREQ_EN = 0x08, DEVSTSCHG_EN = 0x04, REMEVTWAK_EN = 0x02, PWR_CTL = 0x01 };
 
 enum { LOCK_DEF = 0x2, LOCK_MODE = 0x1 };
-enum { DBCCR = 0x0C, BSTR_0 = 0x10, BCER_0 = 0x14, BSTR_1 = 0x18, BCER_1 = 0x1C, LETR = 0x40 };
+enum { DBCCR = 0x0C, BSTR_0 = 0x10, BCER_0 = 0x14, BSTR_1 = 0x18, BCER_1 = 0x1C, LETR = 0x40, WAIT = 0x42 };
 enum { DBCCR_BITS = 0x13, COUNT_BITS = 0x03, LETR_BITS = 0x03 };
 
 struct bay {
@@ -42,6 +42,7 @@ struct bay {
     uint8_t sticky;  /* REMREQ_STS and DEVSTSCHG */
     uint8_t control; /* BCER as it reads */
     uint8_t pulse;
+    uint8_t wait; /* ticks until it is Inserted, 0 where no count runs */
 };
 
 struct dock {
@@ -51,6 +52,7 @@ struct dock {
     uint8_t own;
     uint8_t dbccr;
     uint8_t letr;
+    uint8_t wait_time;
     uint8_t phase;
     uint8_t open_bays;
     uint8_t command;
@@ -99,29 +101,43 @@ static uint8_t debounce(struct bay *bay) {
     return changed;
 }
 
-/* Says whether the change gave the bay a state. */
-static bool presence_changed(struct bay *bay, bool was_present) {
+/* At once, or after the wait that begins here. Says whether the bay has a state by it. */
+static bool insert(struct bay *bay, uint8_t wait_time) {
+    if (wait_time > 0) {
+        bay->wait = wait_time;
+        return false;
+    }
+    bay->state = INSERTED;
+    return true;
+}
+
+/* Says whether a presence bit that changed, or the end of a wait, gave the bay a state. */
+static bool presence_step(struct bay *bay, bool was_present, bool changed, uint8_t wait_time) {
     bool present = is_present(bay);
     bool leaves = was_present && !present;
-    if (!(leaves && bay->state == REMOVAL_ALLOWED && !(bay->control & REMEVTWAK_EN))) {
+    if (changed && !(leaves && bay->state == REMOVAL_ALLOWED && !(bay->control & REMEVTWAK_EN))) {
         bay->sticky |= DEVSTSCHG;
     }
     if (leaves) {
         bay->state = EMPTY;
         bay->control &= (uint8_t)~(REQUEST | PWR_CTL);
+        bay->wait = 0;
         return true;
     }
     if (!was_present && present && (bay->control & DEVSTSCHG_EN)) {
+        return insert(bay, wait_time);
+    }
+    if (bay->wait > 0 && --bay->wait == 0) {
         bay->state = INSERTED;
         return true;
     }
     return false;
 }
 
-static void settle(struct bay *bay) {
+static void settle(struct bay *bay, uint8_t wait_time) {
     bool was_present = is_present(bay);
     uint8_t changed = debounce(bay);
-    bool moved = (changed & PRESENCE) && presence_changed(bay, was_present);
+    bool moved = presence_step(bay, was_present, changed & PRESENCE, wait_time);
     if ((changed & NREMREQ) && !(bay->accepted & NREMREQ) && is_present(bay)) {
         bool first = !(bay->sticky & REMREQ_STS);
         bay->sticky |= REMREQ_STS;
@@ -131,9 +147,9 @@ static void settle(struct bay *bay) {
     }
 }
 
-static void bay_tick(struct bay *bay) {
-    if ((bay->levels ^ bay->accepted) & DEBOUNCED) {
-        settle(bay);
+static void bay_tick(struct bay *bay, uint8_t wait_time) {
+    if (((bay->levels ^ bay->accepted) & DEBOUNCED) || bay->wait > 0) {
+        settle(bay, wait_time);
     }
     if (bay->pulse > 0) {
         bay->pulse--;
@@ -149,7 +165,7 @@ static void write_bstr(struct bay *bay, uint8_t value) {
     bay->sticky &= (uint8_t)~(value & (REMREQ_STS | DEVSTSCHG));
 }
 
-static void write_bcer(struct bay *bay, uint8_t value, uint8_t pulse) {
+static void write_bcer(struct bay *bay, uint8_t value, uint8_t pulse, uint8_t wait_time) {
     uint8_t old = bay->control;
     uint8_t rising = value & (uint8_t)~old;
     uint8_t request = value >> 4 & 7;
@@ -160,10 +176,13 @@ static void write_bcer(struct bay *bay, uint8_t value, uint8_t pulse) {
     if ((value & PWR_CTL) && (value & LOCK_CTL) && present) {
         bay->control |= PWR_CTL;
     }
+    if (!(value & DEVSTSCHG_EN) || (asks && present)) {
+        bay->wait = 0;
+    }
     if (asks && present) {
         bay->state = request;
     } else if ((rising & DEVSTSCHG_EN) && bay->state == EMPTY && present) {
-        bay->state = INSERTED;
+        insert(bay, wait_time);
     } else if ((rising & REMREQ_EN) && (bay->sticky & REMREQ_STS) && takes_press(bay)) {
         bay->state = REMOVAL_REQUESTED;
     }
@@ -210,6 +229,7 @@ static uint8_t read_register(const struct dock *dock, uint8_t address) {
     case 0x04: return 0x01;
     case DBCCR: return dock->dbccr;
     case LETR: return dock->letr;
+    case WAIT: return dock->wait_time;
     case BSTR_0: return read_bstr(&dock->bays[0]);
     case BCER_0: return dock->bays[0].control;
     case BSTR_1: return open_1 ? read_bstr(&dock->bays[1]) : 0;
@@ -237,8 +257,9 @@ static void write_register(struct dock *dock, uint8_t address, uint8_t value) {
     switch (address) {
     case DBCCR: write_dbccr(dock, value); break;
     case LETR: dock->letr = value & LETR_BITS; break;
+    case WAIT: dock->wait_time = value; break;
     case BSTR_0: write_bstr(&dock->bays[0], value); break;
-    case BCER_0: write_bcer(&dock->bays[0], value, pulse); break;
+    case BCER_0: write_bcer(&dock->bays[0], value, pulse, dock->wait_time); break;
     case BSTR_1:
         if (open_1) {
             write_bstr(&dock->bays[1], value);
@@ -246,7 +267,7 @@ static void write_register(struct dock *dock, uint8_t address, uint8_t value) {
         break;
     case BCER_1:
         if (open_1) {
-            write_bcer(&dock->bays[1], value, pulse);
+            write_bcer(&dock->bays[1], value, pulse, dock->wait_time);
         }
         break;
     default: break;
@@ -307,7 +328,7 @@ static void do_pins(struct dock *dock, uint8_t levels) {
 
 static void do_tick(struct dock *dock) {
     for (int i = 0; i < dock->open_bays; i++) {
-        bay_tick(&dock->bays[i]);
+        bay_tick(&dock->bays[i], dock->wait_time);
     }
     dock->phase = dock->phase == PHASES - 1 ? 0 : dock->phase + 1;
 }

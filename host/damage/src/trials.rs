@@ -65,6 +65,7 @@ impl Trials {
         self.part("random strings", |trials| trials.noise(strings))?;
         self.part("strings made of fields", |trials| trials.made(strings))?;
         self.part("every length", |trials| thorough.iter().try_for_each(|image| trials.lengths(image)))?;
+        self.part("what an older one saved", |trials| reached.iter().try_for_each(|image| trials.older(image)))?;
         println!("{:<28} {}", "all", self.total);
         println!("images of {} reached states damaged: 0 mismatches", reached.len());
         Ok(())
@@ -136,6 +137,21 @@ impl Trials {
                 self.judge(&[image, &tail].concat()[..length])?;
             }
             let bytes = strings::noise(&mut self.random, length);
+            self.judge(&bytes)?;
+        }
+        Ok(())
+    }
+
+    /// What an older library saved, as it is and followed by zeros or by its like. With the number of this layout some
+    /// of these are images, and the model says of which state.
+    fn older(&mut self, image: &[u8]) -> Result<(), String> {
+        let older = strings::older(image);
+        let zeros = vec![0; STATE_BYTES];
+        for tail in [&[][..], &zeros, &older] {
+            let mut bytes = [&older[..], tail].concat();
+            bytes.truncate(STATE_BYTES);
+            self.judge(&bytes)?;
+            bytes[0] = image[0];
             self.judge(&bytes)?;
         }
         Ok(())

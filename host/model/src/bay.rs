@@ -83,6 +83,8 @@ pub struct Bay {
     pub(crate) request: u8,
     pub(crate) control: Control,
     pub(crate) pulse: u8,
+    /// The ticks until the bay is Inserted; 0 where no count runs.
+    pub(crate) wait: u8,
 }
 
 impl Bay {
@@ -98,6 +100,7 @@ impl Bay {
             request: 0,
             control: Control { lock, ..Control::default() },
             pulse: 0,
+            wait: 0,
         };
         bay.devstschg = bay.present();
         bay
@@ -122,23 +125,25 @@ impl Bay {
         }
     }
 
-    pub fn tick(&mut self) {
-        if (self.levels ^ self.accepted) & ANY_DEBOUNCED != 0 {
-            self.settle();
+    /// `wait_time` is what 42h holds.
+    pub fn tick(&mut self, wait_time: u8) {
+        if (self.levels ^ self.accepted) & ANY_DEBOUNCED != 0 || self.wait > 0 {
+            self.settle(wait_time);
         }
         self.pulse = self.pulse.saturating_sub(1);
     }
 
-    /// One tick for inputs that differ from their accepted level, and the move that may follow.
-    fn settle(&mut self) {
+    /// One tick for inputs that differ from their accepted level and for a count that runs, and the move that may
+    /// follow.
+    fn settle(&mut self, wait_time: u8) {
         let before = self.accepted;
         let was_present = self.present();
         self.debounce();
         let changed = self.accepted ^ before;
-        let mut moved = false;
         if changed & PRESENCE != 0 {
-            moved = self.presence_changed(was_present);
+            self.tell_change(was_present);
         }
+        let moved = self.seat(was_present, wait_time);
         let button_down = changed & NREMREQ != 0 && self.accepted & NREMREQ == 0;
         if button_down && self.present() {
             self.pressed(moved);
@@ -159,25 +164,57 @@ impl Bay {
         }
     }
 
-    /// Either presence bit has changed. Says whether that gave the bay a state.
-    fn presence_changed(&mut self, was_present: bool) -> bool {
+    /// Either presence bit has changed.
+    fn tell_change(&mut self, was_present: bool) {
         let leaving = was_present && !self.present();
-        let arriving = !was_present && self.present();
         let silent = leaving && self.state == State::RemovalAllowed && !self.control.remevtwak_enable;
         if !silent {
             self.devstschg = true;
         }
-        if leaving {
-            self.state = State::Empty;
-            self.request = 0;
-            self.control.power = false;
+    }
+
+    /// A device leaves or comes, or else a count goes on. Says whether that gave the bay a state.
+    fn seat(&mut self, was_present: bool, wait_time: u8) -> bool {
+        if was_present && !self.present() {
+            self.leave();
             return true;
         }
+        let arriving = !was_present && self.present();
         if arriving && self.control.devstschg_enable {
-            self.state = State::Inserted;
-            return true;
+            return self.insert(wait_time);
         }
-        false
+        self.wait_on()
+    }
+
+    fn leave(&mut self) {
+        self.state = State::Empty;
+        self.request = 0;
+        self.control.power = false;
+        self.wait = 0;
+    }
+
+    /// A device that the host is to hear of is Inserted at once, or after the wait that begins here. Says whether that
+    /// gave the bay a state.
+    fn insert(&mut self, wait_time: u8) -> bool {
+        if wait_time > 0 {
+            self.wait = wait_time;
+            return false;
+        }
+        self.state = State::Inserted;
+        true
+    }
+
+    /// A count that runs falls by one, and at 0 the bay is Inserted. Says whether it is.
+    fn wait_on(&mut self) -> bool {
+        if self.wait == 0 {
+            return false;
+        }
+        self.wait -= 1;
+        let over = self.wait == 0;
+        if over {
+            self.state = State::Inserted;
+        }
+        over
     }
 
     /// A press with a device in the bay, by this tick's presence. It counts as a request only if the last one was
@@ -223,8 +260,9 @@ impl Bay {
             | u8::from(self.control.power)
     }
 
-    /// A write to BCER. `pulse` is the length of the unlocking pulse, and 0 in the mode that has none.
-    pub fn write_control(&mut self, value: u8, pulse: u8) {
+    /// A write to BCER. `pulse` is the length of the unlocking pulse, and 0 in the mode that has none; `wait_time` is
+    /// what 42h holds.
+    pub fn write_control(&mut self, value: u8, pulse: u8, wait_time: u8) {
         let old = self.control;
         let lock = value & 0x80 != 0;
         self.control = Control {
@@ -238,28 +276,28 @@ impl Bay {
         if let Some(state) = requested {
             self.request = state as u8;
         }
-        if let Some(state) = self.written_move(requested, old) {
-            self.state = state;
+        self.written_move(requested, old, wait_time);
+        if !self.control.devstschg_enable {
+            self.wait = 0;
         }
         if old.lock && !lock && pulse > 0 {
             self.pulse = pulse;
         }
     }
 
-    /// The one move of a BCER write: the first that applies.
-    fn written_move(&self, requested: Option<State>, old: Control) -> Option<State> {
-        if requested.is_some() && self.present() {
-            return requested;
-        }
+    /// The one move of a BCER write: the first that applies. DEVSTSCHG_EN over a device may only begin the wait for its
+    /// own.
+    fn written_move(&mut self, requested: Option<State>, old: Control, wait_time: u8) {
         let devstschg_rises = !old.devstschg_enable && self.control.devstschg_enable;
-        if devstschg_rises && self.state == State::Empty && self.present() {
-            return Some(State::Inserted);
-        }
         let remreq_rises = !old.remreq_enable && self.control.remreq_enable;
-        if remreq_rises && self.remreq_status && self.state.takes_removal_request() {
-            return Some(State::RemovalRequested);
+        if let (Some(state), true) = (requested, self.present()) {
+            self.state = state;
+            self.wait = 0;
+        } else if devstschg_rises && self.state == State::Empty && self.present() {
+            self.insert(wait_time);
+        } else if remreq_rises && self.remreq_status && self.state.takes_removal_request() {
+            self.state = State::RemovalRequested;
         }
-        None
     }
 
     /// Power, lock pin, green and yellow, bits 3 to 0.

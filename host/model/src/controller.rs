@@ -20,6 +20,7 @@ const DBCCR: u8 = 0x0C;
 const BSTR: [u8; 2] = [0x10, 0x18];
 const BCER: [u8; 2] = [0x14, 0x1C];
 const LETR: u8 = 0x40;
+const WAIT: u8 = 0x42;
 
 const SECLOCK: u8 = 0x10;
 const BAY_COUNT_BITS: u8 = 0x03;
@@ -36,6 +37,7 @@ pub struct Controller {
     pub(crate) bay_count: u8,
     pub(crate) capabilities_written: bool,
     pub(crate) lock_time: u8,
+    pub(crate) wait_time: u8,
     pub(crate) phase: u8,
     pub(crate) bays: [Bay; 2],
 }
@@ -56,6 +58,7 @@ impl Controller {
             bay_count: 0,
             capabilities_written: false,
             lock_time: 0,
+            wait_time: 0,
             phase: 0,
             bays: [Bay::empty(), Bay::empty()],
         }
@@ -165,7 +168,8 @@ impl Controller {
     }
 
     fn tick(&mut self) {
-        self.open_bays_mut().iter_mut().for_each(Bay::tick);
+        let wait_time = self.wait_time;
+        self.open_bays_mut().iter_mut().for_each(|bay| bay.tick(wait_time));
         self.phase = (self.phase + 1) % PHASES;
     }
 
@@ -185,6 +189,7 @@ impl Controller {
             0x04 => 0x01,
             DBCCR => self.capabilities(),
             LETR => self.lock_time,
+            WAIT => self.wait_time,
             _ => self.bay_reading(address),
         }
     }
@@ -211,6 +216,7 @@ impl Controller {
         match address {
             DBCCR => self.write_capabilities(value),
             LETR => self.lock_time = value & LETR_BITS,
+            WAIT => self.wait_time = value,
             _ => self.write_bay(address, value),
         }
     }
@@ -230,12 +236,13 @@ impl Controller {
 
     fn write_bay(&mut self, address: u8, value: u8) {
         let pulse = if self.lock_pulses() { PULSE_TICKS[usize::from(self.lock_time)] } else { 0 };
+        let wait_time = self.wait_time;
         for (index, bay) in self.open_bays_mut().iter_mut().enumerate() {
             if address == BSTR[index] {
                 bay.write_status(value);
             }
             if address == BCER[index] {
-                bay.write_control(value, pulse);
+                bay.write_control(value, pulse, wait_time);
             }
         }
     }

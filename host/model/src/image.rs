@@ -1,4 +1,4 @@
-//! A controller as 51 bytes, and back. Every fit state has one image, and no other bytes give it.
+//! A controller as 54 bytes, and back. Every fit state has one image, and no other bytes give it.
 //!
 //! In order: the version of the layout; the flags, each 0 or 1, of the controller and of either bay; the numbers, of
 //! the controller and of either bay; the command in progress with the two bytes that it may hold, 0 where it has none.
@@ -9,11 +9,12 @@ use crate::bus::Command;
 use crate::Controller;
 
 /// The length of an image.
-pub const STATE_BYTES: usize = 51;
+pub const STATE_BYTES: usize = 54;
 
-const VERSION: u8 = 2;
+const VERSION: u8 = 3;
 
-/// The last of each number that the paper calls fit; that of a debounce count follows from its input.
+/// The last of each number that the paper calls fit; that of a debounce count follows from its input. A wait, 42h's or
+/// one that runs, may be any byte.
 const MOST_STRAPS: u8 = 15;
 const MOST_BAY_COUNT: u8 = 3;
 const MOST_LOCK_TIME: u8 = 3;
@@ -27,7 +28,7 @@ impl Controller {
         image.put(VERSION);
         image.flags(&[self.started, self.capabilities_written, self.security_lock]);
         self.bays.iter().for_each(|bay| image.bay_flags(bay));
-        image.numbers(&[self.straps, self.bay_count, self.lock_time, self.phase]);
+        image.numbers(&[self.straps, self.bay_count, self.lock_time, self.wait_time, self.phase]);
         self.bays.iter().for_each(|bay| image.bay_numbers(bay));
         image.numbers(&progress(self.command));
         image.bytes
@@ -44,6 +45,7 @@ impl Controller {
         let straps = image.number(MOST_STRAPS)?;
         let bay_count = image.number(MOST_BAY_COUNT)?;
         let lock_time = image.number(MOST_LOCK_TIME)?;
+        let wait_time = image.take();
         let phase = image.number(MOST_PHASE)?;
         for bay in &mut bays {
             image.bay_numbers(bay)?;
@@ -57,6 +59,7 @@ impl Controller {
             bay_count,
             capabilities_written,
             lock_time,
+            wait_time,
             phase,
             bays,
         })
@@ -69,7 +72,7 @@ pub fn is_image(bytes: &[u8]) -> bool {
     bytes.len() == STATE_BYTES
         && bytes[0] == VERSION
         && bytes[flags].iter().all(|&flag| flag <= 1)
-        && command([bytes[48], bytes[49], bytes[50]]).is_some()
+        && command([bytes[51], bytes[52], bytes[53]]).is_some()
 }
 
 /// The command's number and its bytes.
@@ -128,7 +131,7 @@ impl Writer {
 
     fn bay_numbers(&mut self, bay: &Bay) {
         self.numbers(&bay.counts);
-        self.numbers(&[bay.state as u8, bay.request, bay.pulse]);
+        self.numbers(&[bay.state as u8, bay.request, bay.pulse, bay.wait]);
     }
 }
 
@@ -184,6 +187,7 @@ impl Reader<'_> {
         bay.state = State::of_number(self.take())?;
         bay.request = self.number(MOST_REQUEST)?;
         bay.pulse = self.number(MOST_PULSE)?;
+        bay.wait = self.take();
         Some(())
     }
 }

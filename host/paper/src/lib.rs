@@ -1,4 +1,4 @@
-//! Document 01's examples and sentences as data: event words, and what the paper says of them in numbers.
+//! The examples and sentences of documents 01 and 02 as data: event words, and what the papers say of them in numbers.
 //!
 //! Nothing here is a controller. Whoever has one lends its three calls, and every example is asked of it: the model's
 //! tests do so with the model alone, the differential test with the library, the model and the C controller.
@@ -10,6 +10,7 @@ mod bus;
 mod buttons;
 mod outputs;
 mod registers;
+mod waits;
 pub mod words;
 
 /// A controller's calls, each from a fresh one, with answers as the C interface has them: the refusal number times
@@ -48,6 +49,7 @@ pub fn examples() -> Vec<Example> {
         registers::examples(),
         bays::examples(),
         buttons::examples(),
+        waits::examples(),
         outputs::examples(),
         bench::examples(),
     ]

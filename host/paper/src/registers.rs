@@ -11,7 +11,7 @@ const R_SHORT: u16 = reset_short(0x0, 0xBF);
 const DEVICE_IN_BAY_1: u16 = reset(0x1, 0xFB);
 
 fn fixed() -> impl Iterator<Item = Example> {
-    let readings = [(0x00, 0x55), (0x01, 0x10), (0x04, 0x01), (0x02, 0x00), (0x41, 0x00), (0xFF, 0x00)];
+    let readings = [(0x00, 0x55), (0x01, 0x10), (0x04, 0x01), (0x02, 0x00), (0x41, 0x00), (0x43, 0x00), (0xFF, 0x00)];
     readings.into_iter().map(|(address, value)| {
         let name = format!("{:02X}h is fixed", address);
         example(name, &[&[R], &w(address, 0xAA)], vec![Reads(address, value)])
@@ -113,8 +113,8 @@ fn letr_starts() -> impl Iterator<Item = Example> {
 /// All that RESET sets back, after a life in both bays. LETR starts at 1, and with bit 12 of the RESET at 0 (document 02,
 /// request 4).
 fn after_reset(name: &str, reset: u16, letr: u8) -> Example {
-    let life = [&[R][..], &w(0x40, 0x02), &w(0x14, 0xAF), &w(0x1C, 0xCF), &hold(0x9D, 5)].concat();
-    let zeros = [0x0C, 0x14, 0x18, 0x1C].map(|address| Reads(address, 0));
+    let life = [&[R][..], &w(0x40, 0x02), &w(0x42, 0x55), &w(0x14, 0xAF), &w(0x1C, 0xCF), &hold(0x9D, 5)].concat();
+    let zeros = [0x0C, 0x14, 0x18, 0x1C, 0x42].map(|address| Reads(address, 0));
     let mut expected = vec![Reads(0x10, 0x05), Reads(0x40, letr), Outputs(0)];
     expected.extend(zeros);
     example(name, &[&life, &[reset]], expected)
