@@ -10,7 +10,7 @@
 use std::fmt;
 
 /// Where a bay's flags and its counts begin in an image.
-const BAYS: [(usize, usize); 2] = [(4, 36), (18, 42)];
+const BAYS: [(usize, usize); 2] = [(4, 37), (18, 44)];
 const ACCEPTED: usize = 3;
 const REMREQ_STS: usize = 7;
 

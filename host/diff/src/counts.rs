@@ -19,7 +19,7 @@ impl fmt::Display for Counts {
         write!(f, "{} examples, {} lists, {} words, ", self.examples, self.lists, self.words)?;
         write!(f, "on a held state {} by steps and {} in batches, ", held.steps, held.batched)?;
         write!(f, "{} readings, {} outputs, {} refused calls, ", held.readings, held.outputs, held.refused)?;
-        write!(f, "{}, {}, {}, ", held.presses, held.buttons, held.pulses)?;
+        write!(f, "{}, {}, {}, {}, ", held.presses, held.buttons, held.pulses, held.waits)?;
         write!(f, "{} packs, {} unpacks", self.packs, self.unpacks)
     }
 }

@@ -17,6 +17,7 @@ mod run;
 mod shrink;
 mod sides;
 mod tell;
+mod waits;
 mod walk;
 
 use run::Run;

@@ -5,9 +5,9 @@ use std::fmt;
 
 /// Where things stand in an image.
 const LOCK_TIME: usize = 34;
-const PULSES: [usize; 2] = [41, 47];
-const PROGRESS: usize = 48;
-const REGISTER: usize = 49;
+const PULSES: [usize; 2] = [42, 49];
+const PROGRESS: usize = 51;
+const REGISTER: usize = 52;
 
 /// The progress of a write whose data byte came.
 const DATA: u8 = 4;

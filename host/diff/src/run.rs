@@ -7,12 +7,13 @@ use crate::presses::Presses;
 use crate::pulses::Pulses;
 use crate::sides::{HELD, LIBRARY, MODEL, PLAIN};
 use crate::tell::{self, call_agrees, Failure};
+use crate::waits::Waits;
 use crate::walk::{self, Way};
 use model::{Controller, MOST_WORDS};
 use trial::{lists, Random, Room};
 
-/// What dock_version answers: 3.1, accepted.
-const VERSION: u32 = 0x0301;
+/// What dock_version answers: 4.0, accepted.
+const VERSION: u32 = 0x0400;
 
 /// Kinds that pack is asked for: the eight and two that do not exist.
 const KINDS: u8 = 10;
@@ -23,7 +24,7 @@ const FIRSTS: u16 = 1024;
 /// Second numbers that pack is asked for with every first.
 const SECONDS: [u8; 2] = [0x00, 0xBF];
 
-/// From so many generated words on, each kind of press, of button level and of pulse must have come.
+/// From so many generated words on, each kind of press, of button level, of pulse and of wait must have come.
 const TELLING: usize = 100_000;
 
 /// Up to here a list is short enough for the C controller to be asked all 256 addresses, each from the whole list.
@@ -120,6 +121,7 @@ impl Run {
         self.counts.held.presses = Presses::default();
         self.counts.held.buttons = Buttons::default();
         self.counts.held.pulses = Pulses::default();
+        self.counts.held.waits = Waits::default();
         while self.counts.words < enough {
             self.random = Random::new(self.seed, self.counts.lists as u64 + 1);
             let length = lists::length(&mut self.random);
@@ -131,11 +133,12 @@ impl Run {
 
     fn rules_told_apart(&self, words: usize) -> Result<(), Failure> {
         let held = &self.counts.held;
-        let all_came = held.presses.all_came() && held.buttons.all_came() && held.pulses.all_came();
+        let of_inputs = held.presses.all_came() && held.buttons.all_came();
+        let all_came = of_inputs && held.pulses.all_came() && held.waits.all_came();
         if words < TELLING || all_came {
             return Ok(());
         }
-        let came = format!("{}; {}; {}", held.presses, held.buttons, held.pulses);
+        let came = format!("{}; {}; {}; {}", held.presses, held.buttons, held.pulses, held.waits);
         Err(Failure(format!("seed {}: the lists can't tell one rule from another: {}\n", self.seed, came)))
     }
 

@@ -5,7 +5,8 @@ use crate::compare::Mismatch;
 use crate::presses::Presses;
 use crate::pulses::Pulses;
 use crate::sides::LIBRARY;
-use trial::{held, lists, Held, Random, Room, TOO_MANY};
+use crate::waits::{self, Waits};
+use trial::{held, hex, lists, Held, Random, Room, TOO_MANY};
 
 /// How the words are given: one at a time, or in batches that are cut anywhere.
 #[derive(Clone, Copy, Debug)]
@@ -24,6 +25,7 @@ pub struct Counts {
     pub presses: Presses,
     pub buttons: Buttons,
     pub pulses: Pulses,
+    pub waits: Waits,
 }
 
 impl std::ops::AddAssign for Counts {
@@ -36,6 +38,7 @@ impl std::ops::AddAssign for Counts {
         self.presses += more.presses;
         self.buttons += more.buttons;
         self.pulses += more.pulses;
+        self.waits += more.waits;
     }
 }
 
@@ -52,6 +55,15 @@ pub fn walk(words: &[u16], way: Way, seed: u64) -> Result<Counts, Mismatch> {
         answer: mismatch.library,
         model: mismatch.model,
     })
+}
+
+/// Of library and model, which agree on the state: it is one that the paper has words lead to.
+fn is_reached(word: u16, image: &[u8]) -> Result<(), held::Mismatch> {
+    if waits::are_in_place(image) {
+        return Ok(());
+    }
+    let asked = format!("word {:04X}h, a state that no words lead to", word);
+    Err(held::Mismatch { asked, library: hex(image), model: "the same".to_string() })
 }
 
 struct Walk {
@@ -88,6 +100,8 @@ impl Walk {
         }
         self.counts.buttons.count(word, &before, held.bytes());
         self.counts.pulses.count(word, &before, held.bytes());
+        self.counts.waits.count(word, &before, held.bytes());
+        is_reached(word, held.bytes())?;
         Ok(1)
     }
 

@@ -1,12 +1,16 @@
 //! Lists of event words as a dock may meet them, and as it never should.
 
+mod waits;
+
 use crate::random::Random;
 use model::MOST_WORDS;
 use paper::words::{byte, pins, reset, reset_short, take, START, STOP, TICK, TIMEOUT};
 
 /// Every address that means something, and neighbours that do not.
-pub const ADDRESSES: [u8; 18] =
-    [0x00, 0x01, 0x04, 0x0C, 0x10, 0x14, 0x18, 0x1C, 0x40, 0x02, 0x0D, 0x11, 0x15, 0x20, 0x39, 0x41, 0x90, 0xFF];
+pub const ADDRESSES: [u8; 20] = [
+    0x00, 0x01, 0x04, 0x0C, 0x10, 0x14, 0x18, 0x1C, 0x40, 0x42, 0x02, 0x0D, 0x11, 0x15, 0x20, 0x39, 0x41, 0x43, 0x90,
+    0xFF,
+];
 
 /// BCER of either bay, where most of the behaviour is.
 const CONTROLS: [u8; 2] = [0x14, 0x1C];
@@ -92,7 +96,7 @@ impl Writer<'_> {
     }
 
     fn scene(&mut self) {
-        match self.random.below(100) {
+        match self.random.below(106) {
             0..=29 => self.write(),
             30..=49 => self.read(),
             50..=57 => self.broken_command(),
@@ -107,7 +111,8 @@ impl Writer<'_> {
             93 => self.words.push(TIMEOUT),
             94 | 95 => self.unlock(),
             96 | 97 => self.capabilities(),
-            _ => self.reset(),
+            98 | 99 => self.reset(),
+            _ => self.seat_slowly(),
         }
     }
 
@@ -158,6 +163,7 @@ impl Writer<'_> {
             0x10 | 0x18 => self.random.pick(&[0x04, 0x08, 0x0C, 0x00, 0xF3, any]),
             // A count of 1 shuts half of the dock until the next RESET, so it comes less often than chance has it.
             0x0C if any & 3 == 1 && !self.random.one_in(3) => any ^ 1,
+            0x42 => self.wait_time(),
             _ => any,
         }
     }
@@ -243,6 +249,11 @@ impl Writer<'_> {
         if self.random.one_in(2) {
             return TIMEOUT;
         }
+        self.reset_word_here()
+    }
+
+    /// With the address and the levels as they are.
+    fn reset_word_here(&mut self) -> u16 {
         let address_straps = (self.own - 0x90) << 1;
         let straps = address_straps | self.random.byte() & 3;
         self.reset_word(straps)
