@@ -64,6 +64,7 @@ static const uint16_t STORY[] = {
     0xFFFF, 0xA000, 0xA000, 0xA000,                                 /* .. which is accepted at the last */
     0x0000, 0x4092, 0x400C, 0x4012, 0x2000,                         /* DBCCR */
     0x0000, 0x4092, 0x4040, 0x4002, 0x2000,                         /* LETR */
+    0x0000, 0x4092, 0x4042, 0x405A, 0x2000,                         /* 42h, the wait */
     0x0000, 0x4092, 0x4010, 0x0000, 0x4093, 0x6001,                 /* a read */
     0x80DF, 0xA000, 0x0000, 0x4092, 0x4014, 0x4081,                 /* a write that is still open */
 };
@@ -175,14 +176,15 @@ static void take_byte(size_t at, uint8_t value) {
 
 /* Byte by byte, the largest value that the header calls fit; those with the progress are the test's below. */
 static uint8_t most_at(size_t at) {
-    static const uint8_t in_bay[6] = {9, 9, 4, 4, 4, 200};
+    static const uint8_t numbers[5] = {15, 3, 3, 255, 199};
+    static const uint8_t in_bay[7] = {9, 9, 4, 4, 4, 200, 255};
     if (at < DOCK_AT_STRAPS) {
         return 1;
     }
-    if (at >= DOCK_AT_NUMBERS_0) {
-        return in_bay[(at - DOCK_AT_NUMBERS_0) % COUNT(in_bay)];
+    if (at < DOCK_AT_NUMBERS_0) {
+        return numbers[at - DOCK_AT_STRAPS];
     }
-    return (uint8_t)(at == DOCK_AT_STRAPS ? 15 : at == DOCK_AT_PHASE ? 199 : 3);
+    return in_bay[(at - DOCK_AT_NUMBERS_0) % COUNT(in_bay)];
 }
 
 static void test_damage(void) {
@@ -225,13 +227,55 @@ static void test_counts(void) {
     }
 }
 
-/* What a library before 3.1 saved: the first byte is 1, and the button's count may be above 4. */
+static void write_register(uint8_t address, uint8_t value) {
+    dock_step(state, DOCK_STATE_BYTES, 0x0000);
+    dock_step(state, DOCK_STATE_BYTES, 0x4090);
+    dock_step(state, DOCK_STATE_BYTES, (uint16_t)(0x4000 | address));
+    dock_step(state, DOCK_STATE_BYTES, (uint16_t)(0x4000 | value));
+    dock_step(state, DOCK_STATE_BYTES, 0x2000);
+}
+
+/* A device that is to wait for three ticks is Inserted in the third, and its count goes on from any saved value. */
+static void test_waits(void) {
+    for (int bay = 0; bay < 2; bay++) {
+        uint8_t *wait = state + DOCK_AT_BAY_NUMBERS(bay) + DOCK_BAY_WAIT;
+        const uint8_t *of_bay = state + DOCK_AT_BAY_NUMBERS(bay) + DOCK_BAY_STATE;
+        begin();
+        CHECK(dock_step(state, DOCK_STATE_BYTES, 0xC0BB) == 0);
+        write_register(0x42, 3);
+        CHECK(dock_reading(state, DOCK_STATE_BYTES, 0x42) == 3 && state[DOCK_AT_WAIT_TIME] == 3 && *wait == 0);
+        write_register(bay == 0 ? 0x14 : 0x1C, 0x04);
+        CHECK(*wait == 3 && *of_bay == 0);
+        CHECK(dock_step(state, DOCK_STATE_BYTES, 0xA000) == DOCK_INTERRUPT << 8 && *wait == 2 && *of_bay == 0);
+        for (unsigned value = 0; value < 256; value++) {
+            take_byte(DOCK_AT_WAIT_TIME, (uint8_t)value);
+            take_byte(DOCK_AT_BAY_NUMBERS(bay) + DOCK_BAY_WAIT, (uint8_t)value);
+        }
+        CHECK(dock_step(state, DOCK_STATE_BYTES, 0xA000) == DOCK_INTERRUPT << 8 && *wait == 1 && *of_bay == 0);
+        *wait = 255;
+        dock_step(state, DOCK_STATE_BYTES, 0xA000);
+        CHECK(*wait == 254 && *of_bay == 0);
+        *wait = 1;
+        dock_step(state, DOCK_STATE_BYTES, 0xA000);
+        CHECK(*wait == 0 && *of_bay == 1 && state[DOCK_AT_WAIT_TIME] == 3);
+    }
+}
+
+/* The bytes behind it move up by one. */
+static void take_out(size_t at) { memmove(state + at, state + at + 1, DOCK_STATE_BYTES - at - 1); }
+
+/* What a library before 4.0 saved: 51 bytes, without the waits, of layout 2 or 1. */
 static void test_older_layout(void) {
-    begin();
-    CHECK(dock_step(state, DOCK_STATE_BYTES, 0xC0BF) == 0);
-    for (unsigned count = 0; count <= 9; count++) {
-        state[DOCK_AT_BAY_NUMBERS(0) + DOCK_BAY_COUNTS + 2] = (uint8_t)count;
-        refuse_byte(DOCK_AT_VERSION, 1);
+    for (uint8_t layout = 1; layout < DOCK_LAYOUT; layout++) {
+        begin();
+        CHECK(dock_step(state, DOCK_STATE_BYTES, 0xC0BF) == 0);
+        take_out(DOCK_AT_BAY_NUMBERS(1) + DOCK_BAY_WAIT);
+        take_out(DOCK_AT_BAY_NUMBERS(0) + DOCK_BAY_WAIT);
+        take_out(DOCK_AT_WAIT_TIME);
+        state[DOCK_AT_VERSION] = layout;
+        remember(&state_buffer);
+        refuse_length(state, DOCK_STATE_BYTES - 3);
+        refuse_byte(DOCK_AT_VERSION, layout);
     }
 }
 
@@ -287,7 +331,7 @@ static void test_fields(void) {
     CHECK(dock_batch(state, DOCK_STATE_BYTES, STORY, COUNT(STORY), records, ROOM) == COUNT(STORY));
     CHECK(state[DOCK_AT_STARTED] == 1 && state[DOCK_AT_DBCCR_WRITTEN] == 1 && state[DOCK_AT_SECLOCK] == 1);
     CHECK(state[DOCK_AT_STRAPS] == 5 && state[DOCK_AT_BAY_COUNT] == 2 && state[DOCK_AT_LOCK_TIME] == 2);
-    CHECK(state[DOCK_AT_PHASE] == 6);
+    CHECK(state[DOCK_AT_WAIT_TIME] == 0x5A && state[DOCK_AT_PHASE] == 6);
     CHECK(memcmp(flags, flags_0, sizeof flags_0) == 0);
     CHECK(flags[DOCK_BAY_LEVELS + 1] == 1 && flags[DOCK_BAY_ACCEPTED + 1] == 0 && flags[DOCK_BAY_N_SL] == 1);
     CHECK(flags[DOCK_BAY_REMREQ_STS] == 1 && flags[DOCK_BAY_DEVSTSCHG] == 0 && flags[DOCK_BAY_LOCK_CTL] == 1);
@@ -295,6 +339,7 @@ static void test_fields(void) {
     CHECK(flags[DOCK_BAY_REMEVTWAK_EN] == 0 && flags[DOCK_BAY_PWR_CTL] == 1);
     CHECK(numbers[DOCK_BAY_COUNTS] == 0 && numbers[DOCK_BAY_COUNTS + 1] == 1 && numbers[DOCK_BAY_COUNTS + 2] == 0);
     CHECK(numbers[DOCK_BAY_STATE] == 3 && numbers[DOCK_BAY_REQUEST] == 2 && numbers[DOCK_BAY_PULSE] == 0);
+    CHECK(numbers[DOCK_BAY_WAIT] == 0);
     CHECK(state[DOCK_AT_PROGRESS] == 4 && state[DOCK_AT_FIRST] == 0x14 && state[DOCK_AT_SECOND] == 0x81);
     /* The STOP of that write; then LOCK_CTL from 1 to 0 in LOCK_MODE 1 starts a pulse of LETR's 100 ticks. */
     dock_step(state, DOCK_STATE_BYTES, 0x2000);
@@ -390,6 +435,7 @@ int main(void) {
     test_order();
     test_damage();
     test_counts();
+    test_waits();
     test_older_layout();
     test_progress();
     test_story();

@@ -64,7 +64,8 @@ static void start_anew(struct firmware *dock) {
 
 /* Goes on from the saved state; 0 where there is none, it is refused or not started, or the board has other straps.
  * No command outlives a power cut, so TIMEOUT ends one that was open. The levels are sampled anew: a cartridge that
- * left or came meanwhile is debounced as ever. Time stood still: phase, counts and a pulse go on as they were saved. */
+ * left or came meanwhile is debounced as ever. Time stood still: phase, counts, a pulse and a wait go on as they were
+ * saved. */
 static int go_on(struct firmware *dock) {
     if (!store_load(dock->saved)) {
         return 0;
@@ -91,16 +92,21 @@ static int same(const struct firmware *dock, size_t from, size_t end) {
     return memcmp(dock->state + from, dock->saved + from, end - from) == 0;
 }
 
+/* Of ticks that are left: whether any are. */
+static int same_running(const struct firmware *dock, size_t at) {
+    return (dock->state[at] == 0) == (dock->saved[at] == 0);
+}
+
 static int same_bay(const struct firmware *dock, int bay) {
-    size_t flags = DOCK_AT_BAY_FLAGS(bay), numbers = DOCK_AT_BAY_NUMBERS(bay), pulse = numbers + DOCK_BAY_PULSE;
+    size_t flags = DOCK_AT_BAY_FLAGS(bay), numbers = DOCK_AT_BAY_NUMBERS(bay);
     return same(dock, flags + DOCK_BAY_ACCEPTED, flags + DOCK_BAY_PWR_CTL + 1) &&
            same(dock, numbers + DOCK_BAY_STATE, numbers + DOCK_BAY_PULSE) &&
-           (dock->state[pulse] == 0) == (dock->saved[pulse] == 0);
+           same_running(dock, numbers + DOCK_BAY_PULSE) && same_running(dock, numbers + DOCK_BAY_WAIT);
 }
 
 /* Saves where something changed that a restart could not do without. What changes with every tick or bounce is saved
- * along with it and is no reason by itself: phase, counts, a pulse's ticks, sampled levels, an open command. So a pulse
- * that is cut may last longer after the restart, by the ticks since the last save. */
+ * along with it and is no reason by itself: phase, counts, the ticks of a pulse or a wait, sampled levels, an open
+ * command. So a pulse or a wait that is cut may last longer after the restart, by the ticks since the last save. */
 static void save(struct firmware *dock) {
     if (same(dock, DOCK_AT_VERSION, DOCK_AT_FLAGS_0) && same(dock, DOCK_AT_STRAPS, DOCK_AT_PHASE) &&
         same_bay(dock, 0) && same_bay(dock, 1)) {

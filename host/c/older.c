@@ -1,10 +1,25 @@
-/* A program that was built on the header of version 2.1 and linked with the library of today: its declarations are that
- * header's, and what it sees of every word and every event is told here, so that none is misread silently. */
+/* Programs that were built on older headers and linked with the library of today. Both ask whether it is theirs and are
+ * told that it is not; what they see where they go on all the same is told here, so that nothing is misread silently.
+ *
+ * One was built on the header of version 2.1: its declarations are that header's, and it packs and unpacks every event.
+ * The other was built on that of 3.1, and its state has 51 bytes. */
 #include <stdint.h>
 #include <stdio.h>
+#include <string.h>
 
+uint32_t dock_version(void);
+uint32_t dock_begin(uint8_t *state, size_t state_len);
+uint32_t dock_step(uint8_t *state, size_t state_len, uint16_t word);
+uint32_t dock_batch(uint8_t *state, size_t state_len, const uint16_t *words, size_t words_len, uint8_t *records,
+                    size_t records_len);
+uint32_t dock_reading(const uint8_t *state, size_t state_len, uint8_t address);
+uint32_t dock_outputs(const uint8_t *state, size_t state_len);
+uint32_t dock_replay(const uint16_t *words, size_t words_len, uint8_t *records, size_t records_len);
 uint32_t dock_pack(uint8_t kind, uint8_t first, uint8_t second);
 uint32_t dock_unpack(uint16_t word);
+
+#define STATE_BYTES 51u
+#define GUARD 16u
 
 static uint32_t refusal(uint32_t answer) { return answer >> 16; }
 static uint8_t first(uint32_t answer) { return (uint8_t)(answer >> 8 & 0xFFu); }
@@ -16,6 +31,14 @@ static void check(int good, const char *what, unsigned long number) {
     checks++;
     if (!good && failed++ < 10) {
         printf("older: %s, %lX\n", what, number);
+    }
+}
+
+/* The question of each header, which has its own version in it. */
+static void ask_version(void) {
+    static const uint32_t built_on[] = {0x0200, 0x0201, 0x0300, 0x0301};
+    for (size_t i = 0; i < sizeof built_on / sizeof built_on[0]; i++) {
+        check(dock_version() >> 8 != built_on[i] >> 8, "taken for its library", built_on[i]);
     }
 }
 
@@ -53,9 +76,60 @@ static void pack_all(void) {
     }
 }
 
+/* What library 3.1 saved after a RESET with a USB device in bay 0: of layout 2. */
+static const uint8_t SAVED[STATE_BYTES] = {
+    2, 1, 0, 0,                                  /* layout, started */
+    1, 0, 1, 1, 0, 1, 1, 0, 1, 0, 0, 0, 0, 0,    /* flags of bay 0: the device, and DEVSTSCHG */
+    1, 1, 1, 1, 1, 1, 1, 0, 0, 0, 0, 0, 0, 0,    /* flags of bay 1 */
+    0, 0, 1, 0,                                  /* LETR */
+    0, 0, 0, 0, 0, 0, 0, 0, 0, 0, 0, 0, 0, 0, 0, /* no counts, no command */
+};
+
+static const uint16_t RESET_AND_TICK[] = {0xC0BF, 0xA000};
+
+/* Every call that takes a state refuses it with 1. NULL does as well, so the state is not even read. */
+static void refuse_state(uint8_t *state, uint8_t *records) {
+    unsigned long null = state == NULL;
+    check(dock_begin(state, STATE_BYTES) == 1u << 16, "begun", null);
+    check(dock_step(state, STATE_BYTES, 0xC0BF) == 1u << 28, "stepped", null);
+    check(dock_batch(state, STATE_BYTES, RESET_AND_TICK, 2, records, 8) == 1u << 16, "batched", null);
+    check(dock_reading(state, STATE_BYTES, 0x10) == 1u << 16, "read", null);
+    check(dock_outputs(state, STATE_BYTES) == 1u << 16, "asked for outputs", null);
+}
+
+/* A state that was saved and one that was never begun; a byte beside it is another variable of the program. */
+static void refuse_all_states(void) {
+    static uint8_t bytes[GUARD + STATE_BYTES + GUARD], before[sizeof bytes], records[8];
+    static const uint8_t untouched[sizeof records];
+    for (int saved = 0; saved < 2; saved++) {
+        memset(bytes, 0xA5, sizeof bytes);
+        if (saved) {
+            memcpy(bytes + GUARD, SAVED, sizeof SAVED);
+        }
+        memcpy(before, bytes, sizeof bytes);
+        refuse_state(bytes + GUARD, records);
+        check(memcmp(bytes, before, sizeof bytes) == 0, "a state written", (unsigned long)saved);
+    }
+    refuse_state(NULL, records);
+    check(memcmp(records, untouched, sizeof records) == 0, "records written", 0);
+}
+
+/* A replay takes no state, and a program that knows nothing of 42h sees what it saw: the trace of document 01. */
+static void replay_trace(void) {
+    static const uint16_t trace[] = {0xC0BF, 0x0000, 0x4090, 0x4014, 0x4004, 0x2000,
+                                     0x0000, 0x4090, 0x4010, 0x0000, 0x4091, 0x6000};
+    static const uint8_t last[4] = {0x06, 0x2A, 0x41, 0x00};
+    static uint8_t records[sizeof trace / sizeof trace[0] * 4];
+    check(dock_replay(trace, 12, records, sizeof records) == 12, "a replay refused", 0);
+    check(memcmp(records + sizeof records - 4, last, 4) == 0, "replayed otherwise", 0);
+}
+
 int main(void) {
+    ask_version();
     unpack_all();
     pack_all();
+    refuse_all_states();
+    replay_trace();
     printf("older: %lu checks, %lu failed\n", checks, failed);
     return failed != 0;
 }

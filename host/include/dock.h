@@ -1,4 +1,4 @@
-/* The proved controller of a two-bay cartridge dock, version 3.1, for C99 or C++11 and newer.
+/* The proved controller of a two-bay cartridge dock, version 4.0, for C99 or C++11 and newer.
  *
  * A program holds the controller's state as DOCK_STATE_BYTES bytes and gives it one event at a time:
  *
@@ -43,9 +43,16 @@ extern "C" {
  * rises where a program that was built on an older header would misread or misuse a call, the second where it would
  * not.
  *
+ * Since 4.0 register 42h holds a wait of 0 to 255 ticks for cartridges that seat slowly, 0 after a RESET. A driver that
+ * leaves it at 0 sees what it saw. Above 0, a device that arrives with DEVSTSCHG_EN set, or over which that is set in
+ * Empty, leaves its bay Empty while a count of so many ticks runs, and is Inserted at the count's end; DEVSTSCHG and
+ * the interrupt come with the device, as ever. A state holds 42h and a count for each bay, so DOCK_STATE_BYTES is 54,
+ * where it was 51, and images have DOCK_LAYOUT 3. A program that was built on an older header has every call with a
+ * state refused with 1, and must be built again: dock_fits_header() tells it. An image that an older library saved is
+ * refused with 1, and a program that finds one begins anew.
+ *
  * Since 3.1 a level of the removal button is accepted after 5 ticks, pressed and released, and not after 10; presence
- * still takes 10. No call has changed. A saved count of the button's is now at most 4, so images have DOCK_LAYOUT 2:
- * one of layout 1, which an older library saved, is refused with 1, and a program that finds one begins anew.
+ * still takes 10. No call has changed. A saved count of the button's is now at most 4, so images had DOCK_LAYOUT 2.
  *
  * Since 3.0 a RESET starts LETR at 1, a pulse of 50 ticks, and not at 0, one of 12. A dock that was built on the short
  * pulse says so in each RESET: DOCK_SHORT_PULSE beside the straps, bit 12 of the word, which is refused no more. For it
@@ -58,7 +65,7 @@ extern "C" {
  *
  * Before version 2, dock_reading and dock_outputs took words where they take a state now, and dock_unpack had a layout
  * of its own. A program that was built on such a header must be built again. */
-#define DOCK_VERSION 0x0301u
+#define DOCK_VERSION 0x0400u
 
 /* Bits of words and answers, numbers of events, replies and refusals that this header does not name are 0 or not given
  * in this version. A later one may use them, and then has a higher first number. A program that begins by asking
@@ -66,7 +73,7 @@ extern "C" {
 uint32_t dock_version(void); /* value: as DOCK_VERSION */
 static inline int dock_fits_header(void) { return dock_version() >> 8 == DOCK_VERSION >> 8; }
 
-#define DOCK_STATE_BYTES 51u
+#define DOCK_STATE_BYTES 54u
 #define DOCK_RECORD_BYTES 4u
 #define DOCK_MOST_WORDS 16384u
 
@@ -197,7 +204,7 @@ static inline uint8_t dock_second(uint32_t unpacked) { return (uint8_t)(unpacked
  *
  * DOCK_LAYOUT rises whenever a byte, a range or the length changes. An image of another layout is refused with 1: it is
  * not carried over, and a program that finds one begins anew. */
-#define DOCK_LAYOUT 2u
+#define DOCK_LAYOUT 3u
 
 #define DOCK_AT_VERSION 0u /* DOCK_LAYOUT */
 /* Flags: 0 or 1. */
@@ -210,14 +217,15 @@ static inline uint8_t dock_second(uint32_t unpacked) { return (uint8_t)(unpacked
 #define DOCK_AT_STRAPS 32u    /* 0-15 */
 #define DOCK_AT_BAY_COUNT 33u /* 0-3 */
 #define DOCK_AT_LOCK_TIME 34u /* 0-3: LETR */
-#define DOCK_AT_PHASE 35u     /* 0-199 */
-#define DOCK_AT_NUMBERS_0 36u /* six numbers of bay 0 */
-#define DOCK_AT_NUMBERS_1 42u /* the same of bay 1 */
+#define DOCK_AT_WAIT_TIME 35u /* 0-255: 42h */
+#define DOCK_AT_PHASE 36u     /* 0-199 */
+#define DOCK_AT_NUMBERS_0 37u /* seven numbers of bay 0 */
+#define DOCK_AT_NUMBERS_1 44u /* the same of bay 1 */
 /* The command in progress: 0 none is open; 1 START came, 2 own write byte, 3 register byte, 4 data byte, 5 second
  * START, 6 own read byte. */
-#define DOCK_AT_PROGRESS 48u
-#define DOCK_AT_FIRST 49u  /* 3 to 5: the register byte; 6: the value that the TAKE gives; else 0 */
-#define DOCK_AT_SECOND 50u /* 4: the data byte; else 0 */
+#define DOCK_AT_PROGRESS 51u
+#define DOCK_AT_FIRST 52u  /* 3 to 5: the register byte; 6: the value that the TAKE gives; else 0 */
+#define DOCK_AT_SECOND 53u /* 4: the data byte; else 0 */
 
 /* Where the flags and the numbers of bay 0 or 1 begin. */
 #define DOCK_AT_BAY_FLAGS(bay) ((bay) == 0 ? DOCK_AT_FLAGS_0 : DOCK_AT_FLAGS_1)
@@ -240,6 +248,7 @@ static inline uint8_t dock_second(uint32_t unpacked) { return (uint8_t)(unpacked
 #define DOCK_BAY_STATE 3u   /* 0-4 */
 #define DOCK_BAY_REQUEST 4u /* 0-4 */
 #define DOCK_BAY_PULSE 5u   /* 0-200 */
+#define DOCK_BAY_WAIT 6u    /* 0-255: ticks until a device that waits is Inserted, 0 where none does */
 
 #ifdef __cplusplus
 }

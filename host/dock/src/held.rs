@@ -40,7 +40,7 @@ impl Dock {
 
     /// The controller that was kept as these bytes. Any bytes may come: what is no image of a fit state, by its length
     /// or by what it holds, is refused with [`Refusal::UnfitState`], and so is an image of an older layout, such as a
-    /// library before 3.1 kept: then begin anew. A library that isn't this crate's is told as by [`Dock::new`].
+    /// library before 4.0 kept: then begin anew. A library that isn't this crate's is told as by [`Dock::new`].
     ///
     /// ```
     /// use dock::{Dock, Error, Refusal};

@@ -46,7 +46,7 @@ pub use version::{check_library, version, Version, WRITTEN_FOR};
 use answer::{numbers, value};
 
 /// The bytes of a state's image.
-pub const STATE_BYTES: usize = 51;
+pub const STATE_BYTES: usize = 54;
 
 /// The most words of one call; a longer list is refused with [`Refusal::TooManyWords`].
 pub const MOST_WORDS: usize = 16_384;

@@ -25,6 +25,8 @@ pub struct Register;
 impl Register {
     pub const CAPABILITIES: u8 = 0x0C;
     pub const LOCK_TIME: u8 = 0x40;
+    /// For so many ticks a device that the host hears of waits in Empty before it is Inserted.
+    pub const WAIT_TIME: u8 = 0x42;
 
     pub fn status(bay: Bay) -> u8 {
         match bay {

@@ -1,7 +1,7 @@
 //! The wrapper's own part: what it makes of the library's numbers, and what it keeps on a refusal.
 
 use dock::{records, BayState, Dock, Error, Event, Outputs, Record, Refusal, Reply, Status, STATE_BYTES};
-use dock::{Bay, MOST_WORDS};
+use dock::{Bay, Register, MOST_WORDS};
 
 const RESET: u16 = 0xC0BF;
 const TICK: u16 = 0xA000;
@@ -76,8 +76,8 @@ fn only_images_of_fit_states_come_back() {
     for length in 0..STATE_BYTES {
         assert_eq!(Dock::from_bytes(&dock.bytes()[..length]), refused(Refusal::UnfitState));
     }
-    // Layout 1 is what a library before 3.1 saved.
-    for (place, byte) in [(0, 0), (0, 1), (0, 3), (1, 2), (35, 200), (48, 7), (49, 1)] {
+    // Layouts 1 and 2 are what libraries before 4.0 saved, in 51 bytes.
+    for (place, byte) in [(0, 0), (0, 1), (0, 2), (0, 4), (1, 2), (36, 200), (51, 7), (52, 1)] {
         assert_eq!(Dock::from_bytes(&with(&dock, place, byte)), refused(Refusal::UnfitState));
     }
 }
@@ -85,10 +85,35 @@ fn only_images_of_fit_states_come_back() {
 #[test]
 fn a_saved_count_is_below_its_inputs_ticks() {
     let dock = started();
-    let most = [9, 9, 4].into_iter().zip(36..).chain([9, 9, 4].into_iter().zip(42..));
+    let most = [9, 9, 4].into_iter().zip(37..).chain([9, 9, 4].into_iter().zip(44..));
     for (most, place) in most {
         assert!(Dock::from_bytes(&with(&dock, place, most)).is_ok());
         assert_eq!(Dock::from_bytes(&with(&dock, place, most + 1)), refused(Refusal::UnfitState));
+    }
+}
+
+#[test]
+fn any_saved_wait_comes_back() {
+    let dock = started();
+    for place in [35, 43, 50] {
+        assert!((0..=255).all(|wait| Dock::from_bytes(&with(&dock, place, wait)).is_ok()));
+    }
+}
+
+#[test]
+fn a_device_waits_as_the_register_says() {
+    let mut dock = started();
+    let write = |dock: &mut Dock, register, value| {
+        dock::write(0x90, register, value).iter().for_each(|&event| assert!(dock.event(event).is_ok()));
+    };
+    assert_eq!(dock.reading(Register::WAIT_TIME), Ok(0));
+    write(&mut dock, Register::WAIT_TIME, 2);
+    assert_eq!(dock.reading(Register::WAIT_TIME), Ok(2));
+    write(&mut dock, Register::control(Bay::Zero), 0x04);
+    for state in [BayState::Empty, BayState::Empty, BayState::Inserted] {
+        assert_eq!(dock.status(Bay::Zero).unwrap().state(), state);
+        assert!(dock.outputs().unwrap().interrupt());
+        dock.event(Event::Tick).unwrap();
     }
 }
 
