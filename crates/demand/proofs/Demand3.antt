@@ -16,6 +16,7 @@ use Rattle.bus.specs.declared.Reply.the-variants.{Driven}
 use Rattle.machine.specs.Record.{freshMachine, fits}
 use Rattle.machine.specs.Outputs.{outputs}
 use Rattle.machine.specs.Registers.{reading}
+use Rattle.machine.specs.Acts.{doesAll}
 use Rattle.machine.specs.declared.Act.the-variants as act
 use Rattle.machine.proofs.Fit.{fresh-fit, fits-kept}
 use Rattle.dock.specs.Record.{freshController}
@@ -40,8 +41,9 @@ use Rattle.batch.proofs.Theorems.{Alone, alone-or-batched}
 use Rattle.batch.proofs.batch.Reads as batch-call
 use Rattle.demand.specs.Acts.{silent, lineAfter, decided, PassedOver}
 use Rattle.demand.specs.Words.{accepted}
-use Rattle.demand.specs.Plain.{machineAfter, replyTo, plainAnswer}
+use Rattle.demand.specs.Plain.{machineAfter, actsAfter, replyTo, plainAnswer}
 use Rattle.demand.specs.Broken.{BrokenOff, strike}
+use Rattle.demand.proofs.Lists.{machine-append}
 use Rattle.demand.proofs.Follows.{Beside, fresh-beside, words-beside, word-answer}
 use Rattle.demand.proofs.Driven.{driven}
 use Rattle.demand.proofs.Broken.{none-open, words-same}
@@ -77,6 +79,18 @@ after-every-event ws =
       nine-outputs = rw (f, b .machine);
       answers = word-answer (after freshController ws) (accepted false ws) b f;
     }
+
+-- ---- from any point on
+
+-- Words that come after others do to the machine that is there what their acts do: so what is promised of a machine over acts is promised of
+-- the controller over words.
+pub from-there-on : (ws vs : List ℕ) → after freshController (ws ++ vs) .machine ≡ doesAll (actsAfter ws vs) (after freshController ws .machine)
+unfolding actsAfter
+from-there-on ws vs =
+    let b = reached-beside ws in
+    ap (λ (s : Controller). s .machine) (after-append freshController ws vs)
+    ∙ words-beside vs (after freshController ws) (accepted false ws) b (reached-fit ws) .machine
+    ∙ machine-append (accepted false ws) (accepted (after freshController ws .machine .started) vs) ∙ rw (b .machine)
 
 -- ---- a byte driven is what the plain machine read at the deciding event
 

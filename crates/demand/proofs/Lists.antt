@@ -3,11 +3,12 @@ use Prim.Native.Nat.{ℕ}
 use mathlib.Core.Path.{_≡_, refl, ap, sym, _∙_}
 use mathlib.Core.List.{List, [], _∷_, _++_, append-assoc}
 use Rattle.event.specs.declared.Event.{Event}
+use Rattle.machine.specs.Record.{freshMachine}
 use Rattle.machine.specs.Acts.{does, doesAll}
 use Rattle.machine.specs.declared.Machine.{Machine}
 use Rattle.machine.specs.declared.Act.{Act}
-use Rattle.demand.specs.Acts.{Line, hears, decided, lineAfter, actsOf}
-use Rattle.demand.specs.Plain.{answered, lastRead}
+use Rattle.demand.specs.Acts.{Line, silent, hears, decided, lineAfter, actsOf}
+use Rattle.demand.specs.Plain.{machineAfter, answered, lastRead}
 
 pub line-append : (l : Line) (xs ys : List Event) → lineAfter l (xs ++ ys) ≡ lineAfter (lineAfter l xs) ys
 unfolding lineAfter
@@ -24,6 +25,11 @@ pub does-append : (xs ys : List Act) (m : Machine) → doesAll (xs ++ ys) m ≡ 
 unfolding doesAll
 does-append [] ys m = refl
 does-append (a ∷ xs) ys m = does-append xs ys (does a m)
+
+pub machine-append : (xs ys : List Event) → machineAfter (xs ++ ys) ≡ doesAll (actsOf (lineAfter silent xs) ys) (machineAfter xs)
+unfolding machineAfter
+machine-append xs ys =
+    ap (λ k. doesAll k freshMachine) (acts-append silent xs ys) ∙ does-append (actsOf silent xs) (actsOf (lineAfter silent xs) ys) freshMachine
 
 pub reads-append : (v : ℕ) (xs ys : List Act) (m : Machine) → lastRead v (xs ++ ys) m ≡ lastRead (lastRead v xs m) ys (doesAll xs m)
 unfolding lastRead doesAll

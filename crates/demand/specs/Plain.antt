@@ -27,6 +27,10 @@ use Rattle.demand.specs.Words.{accepted}
 unfoldable pub machineAfter : List Event → Machine
 machineAfter es = doesAll (actsOf silent es) freshMachine
 
+-- The acts of words that come after words, from a fresh controller.
+unfoldable pub actsAfter : List ℕ → List ℕ → List Act
+actsAfter ws vs = actsOf (lineAfter silent (accepted false ws)) (accepted (machineAfter (accepted false ws) .started) vs)
+
 -- What the last whole read among acts read when it was done (0: there was none yet).
 abbrev pub answered : ℕ → Act → Machine → ℕ
 answered v (act.Write a b) m = v
