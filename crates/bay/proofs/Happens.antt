@@ -4,7 +4,7 @@ use Prim.Native.Nat.{ℕ, zero, suc, _-_, _<_}
 use native.Mathlib.Omega.{arith}
 use mathlib.Core.Path.{_≡_, refl, _∙_}
 use mathlib.Core.Bool.{Bool, true}
-use mathlib.Core.List.{List, [], _∷_}
+use mathlib.Core.List.{List, [], _∷_, _++_}
 use Rattle.bits.specs.Bits.{bit}
 use Rattle.bay.specs.Record.{ticksFor, level, acceptedLevel, emptyBay, resetBay}
 use Rattle.bay.specs.Debounce.{sampledBay}
@@ -16,6 +16,12 @@ use Rattle.bay.specs.Happens.{Happens, tick, pins, bstr, bcer, happens, 
 use Rattle.bay.specs.declared.Bay.{Bay}
 use Rattle.bay.specs.declared.Setting.{Setting}
 use Rattle.bay.proofs.Debounced.{sees-more, debounced-as}
+
+-- What happens in two lists, one after the other.
+pub happens-more : (xs ys : List Happens) (b : Bay) → happensAll (xs ++ ys) b ≡ happensAll ys (happensAll xs b)
+unfolding happensAll
+happens-more [] ys b = refl
+happens-more (x ∷ xs) ys b = happens-more xs ys (happens x b)
 
 -- What an input sees of what happens is what becomes of it.
 pub input-sees : (x : Happens) (b : Bay) (i : ℕ) → i < 3 → line (happens x b) i ≡ seesAll (ticksFor i) (seenOf i x) (line b i)

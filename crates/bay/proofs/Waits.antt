@@ -12,7 +12,7 @@ use Rattle.bay.specs.Record.{present}
 use Rattle.bay.specs.Moves.{begun, inUse, tickedBay}
 use Rattle.bay.specs.Registers.{controlOf, asks, finds, stateWritten, waitWritten, controlledBay}
 use Rattle.bay.specs.Outputs.{green, yellow}
-use Rattle.bay.specs.Table.{gone}
+use Rattle.bay.specs.Table.{gone, asksNothing}
 use Rattle.bay.specs.Sound.{Sound}
 use Rattle.bay.specs.Happens.{Happens, tick, pins, bstr, bcer, happens, happensAll}
 use Rattle.bay.specs.Waits.{waitTicked, waitWrittenBy, breaks, unbroken, oneTick, ticksOf, Seating, Seated, Broken, Waits}
@@ -28,17 +28,17 @@ use Rattle.bay.proofs.Sound.{sampled-sound, ticked-sound, bstr-written-
 -- ---- in every bay: by a write; what a TICK makes of it is `wait-ticked` of Laws
 
 -- Asking for a state over a device, by the bits of the byte.
-asks-by : (v : ℕ) (device : Bool) → (asks (controlOf v) && device) ≡ not (not (device && eqb (v / 16 % 8) 1) && not (device && eqb (v / 16 % 8) 2) && not (device && eqb (v / 16 % 8) 3) && not (device && eqb (v / 16 % 8) 4))
+pub asks-by : (v : ℕ) (b : Bay) → (asks (controlOf v) && present b) ≡ not (asksNothing v b)
 unfolding asks controlOf
-asks-by v device =
+asks-by v b =
     same _ _
     (below-taut 8 1
     (λ r d. Bool·beq (ltb 0 r && leb r 4 && d) (not (not (d && eqb r 1) && not (d && eqb r 2) && not (d && eqb r 3) && not (d && eqb r 4))))
-    refl (v / 16 % 8) (omega arith) device)
+    refl (v / 16 % 8) (omega arith) (present b))
 
 pub wait-written : (v : ℕ) (s : Setting) (b : Bay) → controlledBay (controlOf v) s b .wait ≡ waitWrittenBy v s b
 unfolding waitWrittenBy controlledBay waitWritten finds begun controlOf
-wait-written v s b = rw (asks-by v (present b)) (go (bit 2 v) _ (not (b .control .«devstschg_en»)) (eqb (b .state) 0) (present b) (eqb (s .«wait_ticks») 0))
+wait-written v s b = rw (asks-by v b) (go (bit 2 v) _ (not (b .control .«devstschg_en»)) (eqb (b .state) 0) (present b) (eqb (s .«wait_ticks») 0))
   where
     picks : (found z : Bool) (m n : ℕ) → cond found (cond z n m) n ≡ cond (found && not z) m n
     picks true true m n = refl

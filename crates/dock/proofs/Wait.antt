@@ -6,11 +6,11 @@ use mathlib.Core.Logic.{_⊎_}
 use mathlib.Core.Bool.{true, false}
 use Rattle.event.specs.declared.Event.{Event}
 use Rattle.bay.specs.Record.{present}
-use Rattle.bay.specs.Waits.{Waits}
-use Rattle.bay.proofs.Waits.{waits}
 use Rattle.machine.specs.Record.{bayAt}
 use Rattle.machine.specs.Wait.{waitTime, waitTimeAfter, waitOf, waitAfter}
+use Rattle.machine.specs.Seats.{Seats}
 use Rattle.machine.proofs.Wait.{wait-time-after, wait-after}
+use Rattle.machine.proofs.Seats.{seats}
 use Rattle.dock.specs.Events.{next}
 use Rattle.dock.specs.Run.{Reached}
 use Rattle.dock.specs.Wait.{waitTimeNext, waitNext}
@@ -38,6 +38,6 @@ pub waits-only :
     → (bayAt (s .machine) i .state ≡ 0) × (present (bayAt (s .machine) i) ≡ true) × (bayAt (s .machine) i .control .«devstschg_en» ≡ true)
 waits-only s r i = reached-sound s r .bays i .seating
 
--- And it keeps its promise.
-pub reached-waits : (s : Controller) → Reached s → (i : ℕ) → 0 < waitOf (s .machine) i → Waits (waitOf (s .machine) i) (bayAt (s .machine) i)
-reached-waits s r i l = waits (bayAt (s .machine) i) (reached-sound s r .bays i) l
+-- And it keeps its promise, whatever acts come.
+pub reached-waits : (s : Controller) → Reached s → (i : ℕ) → 0 < waitOf (s .machine) i → Seats (waitOf (s .machine) i) (s .machine) i
+reached-waits s r i l = seats (s .machine) (reached-sound s r) i l

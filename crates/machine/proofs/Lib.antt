@@ -14,7 +14,9 @@ pub mod Drives
 pub mod Moves
 pub mod Remreq
 pub mod Letr
+pub mod Happens
 pub mod Wait
+pub mod Seats
 pub mod Inputs
 pub mod Pulse
 pub mod Determined

@@ -4,7 +4,7 @@
 use Prim.Native.Nat.{ℕ, zero, suc, _%_, _<_}
 use native.Mathlib.Omega.{arith}
 use mathlib.Core.Path.{_≡_, refl, sym, ap, _∙_}
-use mathlib.Core.Bool.{Bool, true, false, not, _&&_, _||_, and-true, and-eq-true-iff, true≢false}
+use mathlib.Core.Bool.{Bool, true, false, not, _&&_, and-true, and-eq-true-iff, true≢false}
 use lib.Dec.{eqb}
 use borrow.Author.Tests.{eqb-true, eq-eqb, not-true}
 use Rattle.bay.specs.declared.Bay.{Bay}
@@ -23,7 +23,7 @@ use Rattle.machine.specs.Acts.{pinsTo, does}
 use Rattle.machine.specs.declared.Machine.{Machine}
 use Rattle.machine.specs.declared.Act.{Act}
 use Rattle.machine.specs.declared.Act.the-variants.{Write, Read, Pins, Tick, Reset}
-use Rattle.machine.proofs.Choice.{chosen, passed}
+use Rattle.machine.proofs.Choice.{chosen, passed, neither}
 use Rattle.machine.proofs.After.{bay-after, of-write}
 use Rattle.machine.proofs.Map.{takes, closing}
 
@@ -75,10 +75,6 @@ write-still a v m i h =
     (λ k l c. absurd (true≢false (sym c ∙ parts .1)))
     (λ k l n. refl)
   where
-    neither : (p q : Bool) → (p || q) ≡ false → (p ≡ false) × (q ≡ false)
-    neither true q k = absurd (true≢false k)
-    neither false q k = (refl, k)
-
     parts : ((eqb a (bcerAddress i) && isOpen m i) ≡ false) × (closes m i a v ≡ false)
     parts = neither _ _ h
 

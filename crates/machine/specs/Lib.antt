@@ -8,5 +8,7 @@ pub mod Kept
 pub mod Moves
 pub mod Remreq
 pub mod Letr
+pub mod Happens
 pub mod Wait
+pub mod Seats
 pub mod Inputs

@@ -1,0 +1,130 @@
+-- A wait keeps its promise over acts, in every sound machine: what acts are to the bay is what the bay's own promise is about. Assumes
+-- nothing.
+use Prim.Native.Nat.{ℕ, suc, _-_, _/_, _%_, _<_}
+use native.Mathlib.Omega.{arith}
+use mathlib.Core.Path.{_≡_, refl, sym, ap, _∙_}
+use mathlib.Core.Bool.{Bool, true, false, not, _&&_, and-true, and-false, or-true, true≢false}
+use mathlib.Core.List.{List}
+use lib.Dec.{eqb}
+use borrow.Author.Tests.{eq-eqb}
+use Rattle.bits.specs.Bits.{bit}
+use Rattle.bay.specs.declared.Bay.{Bay}
+use Rattle.bay.specs.Record.{present, emptyBay, resetBay}
+use Rattle.bay.specs.Moves.{tickedBay}
+use Rattle.bay.specs.Registers.{controlOf, asks, controlledBay}
+use Rattle.bay.specs.Table.{asksNothing}
+use Rattle.bay.specs.Happens.{Happens, tick, bcer, happens, happensAll}
+use Rattle.bay.specs.Waits.{breaks, Seating, Seated, Broken, Waits}
+use Rattle.bay.proofs.Waits.{asks-by, waits}
+use Rattle.machine.specs.Record.{bay1, bayAt, bayIn, openBy, isOpen}
+use Rattle.machine.specs.Registers.{settingOf}
+use Rattle.machine.specs.Acts.{does, doesAll}
+use Rattle.machine.specs.After.{bstrAddress, bcerAddress, closes, bayAfter}
+use Rattle.machine.specs.Happens.{happened}
+use Rattle.machine.specs.Sound.{Sound}
+use Rattle.machine.specs.Wait.{waitOf}
+use Rattle.machine.specs.Seats.{Undisturbed, ticksTo, Over, BrokenOff, Seats}
+use Rattle.machine.specs.declared.Machine.{Machine}
+use Rattle.machine.specs.declared.Act.{Act}
+use Rattle.machine.specs.declared.Act.the-variants.{Write, Tick, Reset}
+use Rattle.machine.proofs.After.{bay-after, of-write, three}
+use Rattle.machine.proofs.Moves.{moves}
+use Rattle.machine.proofs.Happens.{bay-run, open-run}
+
+-- A bay in which a wait runs is open: the record of a closed one is empty.
+waits-open : (m : Machine) → Sound m → (i : ℕ) → 0 < waitOf m i → isOpen m i ≡ true
+unfolding openBy bayIn emptyBay
+waits-open m h i l = go (eqb i 0) refl
+  where
+    second : (o : Bool) → isOpen m 1 ≡ o → 0 < bay1 (m .bays) .wait → o ≡ true
+    second true q k = refl
+    second false q k = absurd (omega (arith, k, ap (λ (b : Bay). b .wait) (h .closed q)))
+
+    go : (z : Bool) → eqb i 0 ≡ z → isOpen m i ≡ true
+    go true e = rw e
+    go false e = rw e (second (isOpen m 1) refl (rw (waitOf, e) at l))
+
+-- What makes another bay of it ends its wait, whether or not one runs.
+closing-ends : (m : Machine) (i v : ℕ) → closes m i 0x0C v ≡ true → Over 0 (bayAt (does (Write 0x0C v) m) i)
+unfolding does emptyBay
+closing-ends m i v c =
+    of-write 0x0C v m (Over 0) i
+    (λ e o. absurd (true≢false (sym (eq-eqb (bcerAddress i) 0x0C (sym e)) ∙ three i .bcer-dbccr)))
+    (λ e o. absurd (true≢false (sym (eq-eqb (bstrAddress i) 0x0C (sym e)) ∙ three i .bstr-dbccr)))
+    (λ k l d. record { none = refl; stands = refl })
+    (λ k l d. absurd (true≢false (sym c ∙ d)))
+
+reset-ends : (m : Machine) (i straps levels : ℕ) (short : Bool) → Over 0 (bayAt (does (Reset straps levels short) m) i)
+unfolding bayAfter resetBay
+reset-ends m i straps levels short = rw (bay-after (Reset straps levels short) m i) (record { none = refl; stands = refl })
+
+-- ---- the promise
+
+-- Bay i of m, in which a wait runs, after acts: what has happened to it by them.
+module _ (m : Machine) (sound : Sound m) (i : ℕ) (runs : 0 < waitOf m i) (acts : List Act) (u : Undisturbed m i acts) where
+  abbrev now : Machine
+  now = doesAll acts m
+
+  abbrev by-then : Bay
+  by-then = happensAll (happened m i acts) (bayAt m i)
+
+  same : bayAt now i ≡ by-then
+  same = bay-run acts m i (u .kept)
+
+  still-open : isOpen now i ≡ true
+  still-open = open-run acts m i (waits-open m sound i runs) (u .kept)
+
+  ticks-so : bayAt (does Tick now) i ≡ tickedBay (settingOf now) (bayAt now i)
+  ticks-so = moves now i .tick still-open
+
+  writes-so : (v : ℕ) → bayAt (does (Write (bcerAddress i) v) now) i ≡ controlledBay (controlOf v) (settingOf now) (bayAt now i)
+  writes-so v = moves now i .bcer v still-open
+
+  promise : Waits (waitOf m i) (bayAt m i)
+  promise = waits (bayAt m i) (sound .bays i) runs
+
+  goes-on : ticksTo m i acts < waitOf m i → Seating (waitOf m i - ticksTo m i acts) (bayAt now i)
+  goes-on l = rw same (promise .goes-on (happened m i acts) (u .whole) l)
+
+  ends : suc (ticksTo m i acts) ≡ waitOf m i → present (bayAt (does Tick now) i) ≡ true → Seated (bayAt now i) (bayAt (does Tick now) i)
+  ends k p =
+      let there = rw (ticks-so, same) at p in
+      rw (ticks-so, same) (promise .ends (happened m i acts) (settingOf now) (u .whole) k (rw there (and-false (present by-then))))
+
+  -- What breaks it off in any of its ticks.
+  module _ (l : ticksTo m i acts < waitOf m i) where
+    device : present by-then ≡ true
+    device = promise .goes-on (happened m i acts) (u .whole) l .device
+
+    off : (x : Happens) → breaks x by-then ≡ true → Broken x (happens x by-then)
+    off x q = promise .broken (happened m i acts) x (u .whole) l q
+
+    asks-so : (v : ℕ) → asks (controlOf v) ≡ not (asksNothing v by-then)
+    asks-so v = sym (and-true (asks (controlOf v))) ∙ ap (λ d. asks (controlOf v) && d) (sym device) ∙ asks-by v by-then
+
+    removal : present (bayAt (does Tick now) i) ≡ false → Over 0 (bayAt (does Tick now) i)
+    unfolding breaks happens
+    removal p =
+        let left = rw (ticks-so, same) at p in
+        let broken = off (tick (settingOf now)) (rw (device, left)) in
+        rw (ticks-so, same) (record { none = broken .over; stands = broken .unmoved })
+
+    cleared : (v : ℕ) → bit 2 v ≡ false → asksNothing v (bayAt now i) ≡ true → Over 0 (bayAt (does (Write (bcerAddress i) v) now) i)
+    unfolding breaks happens controlOf
+    cleared v z n =
+        let not-asked : asks (controlOf v) ≡ false = asks-so v ∙ ap not (rw same at n) in
+        let broken = off (bcer (controlOf v) (settingOf now)) (rw z) in
+        rw (writes-so v, same) (record { none = broken .over; stands = broken .unmoved ∙ rw not-asked })
+
+    asked : (v : ℕ) → asksNothing v (bayAt now i) ≡ false → Over (v / 16 % 8) (bayAt (does (Write (bcerAddress i) v) now) i)
+    unfolding breaks happens controlOf
+    asked v n =
+        let wanted : asks (controlOf v) ≡ true = asks-so v ∙ ap not (rw same at n) in
+        let broken = off (bcer (controlOf v) (settingOf now)) (rw (wanted, device) (or-true (not (bit 2 v)))) in
+        rw (writes-so v, same) (record { none = broken .over; stands = broken .unmoved ∙ rw wanted })
+
+    broken-off : BrokenOff now i
+    broken-off = record { removal = removal; cleared = cleared; asked = asked; closed = closing-ends now i; reset = reset-ends now i }
+
+pub seats : (m : Machine) → Sound m → (i : ℕ) → 0 < waitOf m i → Seats (waitOf m i) m i
+seats m h i l = record { goes-on = goes-on m h i l; ends = ends m h i l; broken = broken-off m h i l }
