@@ -66,8 +66,8 @@ outputs-determined b mode lit r s p q = p ∙ sym q
 pub interrupt-determined : (b : Bay) (r s : Bool) → interrupt-reads.Post tt (b, tt) r (b, tt) → interrupt-reads.Post tt (b, tt) s (b, tt) → r ≡ s
 interrupt-determined b r s p q = p ∙ sym q
 
-pub debounced-determined : (length : ℕ) (level accepted : Bool) (n : ℕ) (r s : Input) → debounced-reads.Post tt (length, (level, (accepted, (n, tt)))) r (length, (level, (accepted, (n, tt)))) → debounced-reads.Post tt (length, (level, (accepted, (n, tt)))) s (length, (level, (accepted, (n, tt)))) → r ≡ s
-debounced-determined length level accepted n r s p q = p ∙ sym q
+pub debounced-determined : (length : ℕ) (same level accepted : Bool) (n : ℕ) (r s : Input) → debounced-reads.Post tt (length, (same, (level, (accepted, (n, tt))))) r (length, (same, (level, (accepted, (n, tt))))) → debounced-reads.Post tt (length, (same, (level, (accepted, (n, tt))))) s (length, (same, (level, (accepted, (n, tt))))) → r ≡ s
+debounced-determined length same level accepted n r s p q = p ∙ sym q
 
 pub ticks-for-determined : (i r s : ℕ) → ticks-for-reads.Post tt (i, tt) r (i, tt) → ticks-for-reads.Post tt (i, tt) s (i, tt) → r ≡ s
 ticks-for-determined i r s p q = p ∙ sym q

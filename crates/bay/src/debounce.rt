@@ -1,5 +1,6 @@
 // Debounce (document 01, "Bay moves"): what PINS and a TICK make of an input.
 ghost use mathlib.Core.Path.{_≡_};
+ghost use mathlib.Core.Bool.{Bool·beq};
 ghost use Prim.Native.Nat.{_<_};
 ghost use Rattle.bay.specs.Record.{ticksFor};
 ghost use Rattle.bay.specs.Debounce.{debounce, restart, sampledBay};
@@ -18,12 +19,14 @@ pub(crate) fn ticks_for(input: usize) -> u8
     }
 }
 
-// A TICK: a count whose level differs rises by one; at `length` the level is accepted and the count is 0.
-pub(crate) fn debounced(length: u8, level: bool, accepted: bool, count: u8) -> Input
+// A TICK: a count whose level differs rises by one; at `length` the level is accepted and the count is 0. `same`: it doesn't differ, as the
+// caller has found already.
+pub(crate) fn debounced(length: u8, same: bool, level: bool, accepted: bool, count: u8) -> Input
     requires { ⌜ 0 < length ⌝ }
+    requires { ⌜ same ≡ Bool·beq level accepted ⌝ }
     ensures { λ r. ⌜ r ≡ debounce length level accepted count ⌝ }
 {
-    if level == accepted {
+    if same {
         return Input {
             accepted,
             count,

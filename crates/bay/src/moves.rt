@@ -82,10 +82,10 @@ impl Bay {
             return self;
         }
         let arrives = !before & after;
-        let state = self.state_after(ticks, arrives, heeded);
         let wait = self.wait_after(ticks, arrives);
-        self.state = state;
+        let state = self.state_after(ticks, arrives, heeded);
         self.wait = wait;
+        self.state = state;
         self.remreq_sts = self.remreq_sts | heeded;
         self.devstschg = self.devstschg | changed;
         self
@@ -98,28 +98,30 @@ impl Bay {
         let levels = self.levels;
         let accepted = self.accepted;
         let counts = self.counts;
-        let steady = (levels[Bay::N1394] == accepted[Bay::N1394])
-            & (levels[Bay::NUSB] == accepted[Bay::NUSB])
-            & (levels[Bay::NREMREQ] == accepted[Bay::NREMREQ])
-            & (self.wait == 0);
-        if steady {
+        let same_1394 = levels[Bay::N1394] == accepted[Bay::N1394];
+        let same_usb = levels[Bay::NUSB] == accepted[Bay::NUSB];
+        let same_remreq = levels[Bay::NREMREQ] == accepted[Bay::NREMREQ];
+        if same_1394 & same_usb & same_remreq & (self.wait == 0) {
             self.pulse = fallen(self.pulse);
             return self;
         }
         let n1394 = debounced(
             ticks_for(Bay::N1394),
+            same_1394,
             levels[Bay::N1394],
             accepted[Bay::N1394],
             counts[Bay::N1394],
         );
         let nusb = debounced(
             ticks_for(Bay::NUSB),
+            same_usb,
             levels[Bay::NUSB],
             accepted[Bay::NUSB],
             counts[Bay::NUSB],
         );
         let nremreq = debounced(
             ticks_for(Bay::NREMREQ),
+            same_remreq,
             levels[Bay::NREMREQ],
             accepted[Bay::NREMREQ],
             counts[Bay::NREMREQ],

@@ -18,7 +18,7 @@ unfolding stateAfter waitAfter inserts inUse
 returns-2 c =
     let a = c .before .before .before .before .before .before .before .before .before .before .before .before .before .before .before .args in
     let e : leaves (a .self) (a .n1394) (a .nusb) ≡ false = rw (← c .before .before .before .before .before .before .before .before .before .before .before .before .before .before .present .ensures) (c .before .before .before .before .if1 .left) in
-    rw (stayed (a .ticks) (a .self) (a .n1394) (a .nusb) (a .nremreq) e, c .before .before .before .before .before .fallen .ensures, c .before .before .before .state-after .ensures, c .before .before .wait-after .ensures, c .before .before .before .before .before .before .before .before .before .before .before .before .before .before .present .ensures)
+    rw (stayed (a .ticks) (a .self) (a .n1394) (a .nusb) (a .nremreq) e, c .before .before .before .before .before .fallen .ensures, c .before .before .state-after .ensures, c .before .before .before .wait-after .ensures, c .before .before .before .before .before .before .before .before .before .before .before .before .before .before .present .ensures)
 
 pub moved-spec : {M : Type 1} → statement M
 moved-spec =
