@@ -3,12 +3,17 @@
 use Prim.Native.Nat.{ℕ, zero, suc, _<_}
 use native.Mathlib.Omega.{arith}
 use mathlib.Core.Path.{_≡_, refl}
-use mathlib.Core.Bool.{Bool, true, false, cond, _&&_, Bool·beq, and-eq-true-iff, false≢true}
+use mathlib.Core.Bool.{Bool, true, false, cond, _&&_, _||_, Bool·beq, and-eq-true-iff, false≢true, true≢false}
 
 -- What holds of the first answer where the test passes, and of the second where it fails, holds of the answer picked.
 pub pick : {A : Type 0} (P : A → Type 0) {m n : A} (t : Bool) → (t ≡ true → P m) → (t ≡ false → P n) → P (cond t m n)
 pick P true p q = p refl
 pick P false p q = q refl
+
+-- Where one of two tests would do and none does, neither holds.
+pub neither : (p q : Bool) → (p || q) ≡ false → (p ≡ false) × (q ≡ false)
+neither true q h = absurd (true≢false h)
+neither false q h = (refl, h)
 
 -- A statement over n Bools: it computes to true at every assignment; it holds at each.
 abbrev pub Fun : ℕ → Type 0

@@ -1,10 +1,10 @@
 -- A wait keeps its promise, in every sound bay, and what becomes of a wait in every bay. By cases on what happens, and by induction on a
 -- list of it. Assumes nothing.
-use Prim.Native.Nat.{ℕ, _-_, _/_, _%_, _<_}
+use Prim.Native.Nat.{ℕ, _+_, _-_, _/_, _%_, _<_}
 use native.Mathlib.Omega.{arith}
 use mathlib.Core.Path.{_≡_, refl, sym, ap, _∙_}
-use mathlib.Core.Bool.{Bool, true, false, not, cond, _&&_, _||_, Bool·beq, and-eq-true-iff, and-true, and-false, false≢true}
-use mathlib.Core.List.{List, [], _∷_}
+use mathlib.Core.Bool.{Bool, true, false, not, cond, _&&_, _||_, Bool·beq, and-eq-true-iff, and-assoc, and-true, and-false, false≢true}
+use mathlib.Core.List.{List, [], _∷_, _++_}
 use lib.Dec.{eqb, ltb, leb}
 use borrow.Author.Tests.{not-true, not-false}
 use Rattle.bits.specs.Bits.{bit}
@@ -128,6 +128,16 @@ runs-on (x ∷ xs) b n h e u l =
     let both = and-eq-true-iff (not (breaks x b)) (unbroken xs (happens x b)) .0 u in
     let less = one-less x b h (omega (arith, e)) (not-true (breaks x b) (both .0)) in
     runs-on xs (happens x b) (n - oneTick x) (happens-sound x b h) (less ∙ ap (λ m. m - oneTick x) e) (both .1) (omega arith) ∙ omega arith
+
+-- Two lists of what happens, one after the other.
+pub unbroken-more : (xs ys : List Happens) (b : Bay) → unbroken (xs ++ ys) b ≡ (unbroken xs b && unbroken ys (happensAll xs b))
+unfolding unbroken happensAll
+unbroken-more [] ys b = refl
+unbroken-more (x ∷ xs) ys b = rw (unbroken-more xs ys (happens x b)) (sym (and-assoc (not (breaks x b)) (unbroken xs (happens x b)) _))
+
+pub ticks-more : (xs ys : List Happens) → ticksOf (xs ++ ys) ≡ ticksOf xs + ticksOf ys
+ticks-more [] ys = omega arith
+ticks-more (x ∷ xs) ys = rw (ticks-more xs ys) (omega arith)
 
 -- The last tick.
 last : (s : Setting) (b : Bay) → Sound b → b .wait ≡ 1 → gone s b ≡ false → Seated b (tickedBay s b)

@@ -8,7 +8,7 @@ use lib.Dec.{eqb}
 use borrow.Author.Tests.{eq-eqb}
 use Rattle.bay.specs.declared.Bay.{Bay}
 use Rattle.bay.specs.Happens.{Happens, tick, pins, happens, happensAll}
-use Rattle.bay.proofs.Taut.{pick, taut, implies, apply}
+use Rattle.bay.proofs.Taut.{pick, neither, taut, implies, apply}
 use Rattle.bay.proofs.Happens.{happens-more}
 use Rattle.machine.specs.Record.{bayAt, openBy, isOpen}
 use Rattle.machine.specs.Registers.{settingOf}
@@ -19,7 +19,6 @@ use Rattle.machine.specs.declared.Machine.{Machine}
 use Rattle.machine.specs.declared.Shared.{Shared}
 use Rattle.machine.specs.declared.Act.{Act}
 use Rattle.machine.specs.declared.Act.the-variants.{Write, Read, Pins, Tick, Reset}
-use Rattle.machine.proofs.Choice.{neither}
 use Rattle.machine.proofs.After.{bay-after, of-write, written-shared, three}
 
 -- ---- one act

@@ -12,7 +12,7 @@ use Rattle.bay.specs.Record.{emptyBay, resetBay}
 use Rattle.bay.specs.Debounce.{sampledBay}
 use Rattle.bay.specs.Moves.{tickedBay}
 use Rattle.bay.specs.Registers.{controlOf, controlledBay}
-use Rattle.bay.proofs.Taut.{pick}
+use Rattle.bay.proofs.Taut.{pick, neither}
 use Rattle.bay.proofs.Laws.{sampled}
 use Rattle.bay.proofs.Named.{bstr-clears}
 use Rattle.machine.specs.Record.{bayAt, isOpen}
@@ -23,7 +23,7 @@ use Rattle.machine.specs.Acts.{pinsTo, does}
 use Rattle.machine.specs.declared.Machine.{Machine}
 use Rattle.machine.specs.declared.Act.{Act}
 use Rattle.machine.specs.declared.Act.the-variants.{Write, Read, Pins, Tick, Reset}
-use Rattle.machine.proofs.Choice.{chosen, passed, neither}
+use Rattle.machine.proofs.Choice.{chosen, passed}
 use Rattle.machine.proofs.After.{bay-after, of-write}
 use Rattle.machine.proofs.Map.{takes, closing}
 

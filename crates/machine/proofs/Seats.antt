@@ -3,10 +3,10 @@
 use Prim.Native.Nat.{ℕ, suc, _-_, _/_, _%_, _<_}
 use native.Mathlib.Omega.{arith}
 use mathlib.Core.Path.{_≡_, refl, sym, ap, _∙_}
-use mathlib.Core.Bool.{Bool, true, false, not, _&&_, and-true, and-false, or-true, true≢false}
-use mathlib.Core.List.{List}
+use mathlib.Core.Bool.{Bool, true, false, not, _&&_, and-eq-true-iff, and-true, and-false, or-true, true≢false}
+use mathlib.Core.List.{List, [], _∷_}
 use lib.Dec.{eqb}
-use borrow.Author.Tests.{eq-eqb}
+use borrow.Author.Tests.{eq-eqb, not-true, not-false}
 use Rattle.bits.specs.Bits.{bit}
 use Rattle.bay.specs.declared.Bay.{Bay}
 use Rattle.bay.specs.Record.{present, emptyBay, resetBay}
@@ -14,22 +14,23 @@ use Rattle.bay.specs.Moves.{tickedBay}
 use Rattle.bay.specs.Registers.{controlOf, asks, controlledBay}
 use Rattle.bay.specs.Table.{asksNothing}
 use Rattle.bay.specs.Happens.{Happens, tick, bcer, happens, happensAll}
-use Rattle.bay.specs.Waits.{breaks, Seating, Seated, Broken, Waits}
-use Rattle.bay.proofs.Waits.{asks-by, waits}
+use Rattle.bay.specs.Waits.{breaks, unbroken, ticksOf, Seating, Seated, Broken, Waits}
+use Rattle.bay.proofs.Taut.{pick, neither}
+use Rattle.bay.proofs.Waits.{asks-by, unbroken-more, ticks-more, waits}
 use Rattle.machine.specs.Record.{bay1, bayAt, bayIn, openBy, isOpen}
 use Rattle.machine.specs.Registers.{settingOf}
 use Rattle.machine.specs.Acts.{does, doesAll}
 use Rattle.machine.specs.After.{bstrAddress, bcerAddress, closes, bayAfter}
-use Rattle.machine.specs.Happens.{happened}
+use Rattle.machine.specs.Happens.{happensAt, happened, remakes, remade}
 use Rattle.machine.specs.Sound.{Sound}
 use Rattle.machine.specs.Wait.{waitOf}
-use Rattle.machine.specs.Seats.{Undisturbed, ticksTo, Over, BrokenOff, Seats}
+use Rattle.machine.specs.Seats.{clearsOrAsks, endsWait, undisturbed, oneTick, ticksIn, Over, BrokenOff, Seats}
 use Rattle.machine.specs.declared.Machine.{Machine}
 use Rattle.machine.specs.declared.Act.{Act}
-use Rattle.machine.specs.declared.Act.the-variants.{Write, Tick, Reset}
+use Rattle.machine.specs.declared.Act.the-variants.{Write, Read, Pins, Tick, Reset}
 use Rattle.machine.proofs.After.{bay-after, of-write, three}
 use Rattle.machine.proofs.Moves.{moves}
-use Rattle.machine.proofs.Happens.{bay-run, open-run}
+use Rattle.machine.proofs.Happens.{act-happens, act-open, bay-run, open-run}
 
 -- A bay in which a wait runs is open: the record of a closed one is empty.
 waits-open : (m : Machine) → Sound m → (i : ℕ) → 0 < waitOf m i → isOpen m i ≡ true
@@ -58,21 +59,85 @@ reset-ends : (m : Machine) (i straps levels : ℕ) (short : Bool) → Over 0 (ba
 unfolding bayAfter resetBay
 reset-ends m i straps levels short = rw (bay-after (Reset straps levels short) m i) (record { none = refl; stands = refl })
 
+-- ---- acts that end no wait
+
+-- To an open bay each leaves the bay the one that it is, nothing happens by it that breaks a wait off, and it is a TICK where it is one.
+act-kept : (a : Act) (m : Machine) (i : ℕ) → endsWait m i a ≡ false → remakes m i a ≡ false
+unfolding endsWait remakes
+act-kept (Write a v) m i e = neither (eqb a (bcerAddress i) && clearsOrAsks m i v) (closes m i a v) e .1
+act-kept (Read a) m i e = refl
+act-kept (Pins levels) m i e = refl
+act-kept Tick m i e = refl
+act-kept (Reset straps levels short) m i e = e
+
+act-whole : (a : Act) (m : Machine) (i : ℕ) → isOpen m i ≡ true → endsWait m i a ≡ false → unbroken (happensAt m i a) (bayAt m i) ≡ true
+unfolding endsWait happensAt unbroken breaks controlOf
+act-whole (Write a v) m i o e =
+    pick P (eqb a (bcerAddress i) && isOpen m i)
+    (λ h.
+    let own = and-eq-true-iff (eqb a (bcerAddress i)) (isOpen m i) .0 h .0 in
+    let neither-of-both = rw own at (neither (eqb a (bcerAddress i) && clearsOrAsks m i v) (closes m i a v) e .0) in
+    rw (asks-by v (bayAt m i), neither-of-both))
+    (λ _. pick P (eqb a (bstrAddress i) && isOpen m i) (λ _. refl) (λ _. refl))
+  where
+    P : List Happens → Type 0
+    P xs = unbroken xs (bayAt m i) ≡ true
+act-whole (Read a) m i o e = refl
+act-whole (Pins levels) m i o e = rw o
+act-whole Tick m i o e =
+    let there = rw (moves m i .tick o) at (not-false (present (bayAt (does Tick m) i)) e) in
+    rw (o, there, and-false)
+act-whole (Reset straps levels short) m i o e = refl
+
+act-ticks : (a : Act) (m : Machine) (i : ℕ) → isOpen m i ≡ true → ticksOf (happensAt m i a) ≡ oneTick a
+unfolding happensAt
+act-ticks (Write a v) m i o = pick P (eqb a (bcerAddress i) && isOpen m i) (λ _. refl) (λ _. pick P (eqb a (bstrAddress i) && isOpen m i) (λ _. refl) (λ _. refl))
+  where
+    P : List Happens → Type 0
+    P xs = ticksOf xs ≡ 0
+act-ticks (Read a) m i o = refl
+act-ticks (Pins levels) m i o = rw o
+act-ticks Tick m i o = rw o
+act-ticks (Reset straps levels short) m i o = refl
+
+-- So a list of them.
+record Quiet (m : Machine) (i : ℕ) (acts : List Act) : Type 0 where
+  kept : remade m i acts ≡ false
+  whole : unbroken (happened m i acts) (bayAt m i) ≡ true
+  ticks : ticksOf (happened m i acts) ≡ ticksIn acts
+
+quiet : (acts : List Act) (m : Machine) (i : ℕ) → isOpen m i ≡ true → undisturbed m i acts ≡ true → Quiet m i acts
+unfolding undisturbed remade happened unbroken
+quiet [] m i o u = record { kept = refl; whole = refl; ticks = refl }
+quiet (a ∷ acts) m i o u =
+    let both = and-eq-true-iff (not (endsWait m i a)) (undisturbed (does a m) i acts) .0 u in
+    let on = not-true (endsWait m i a) (both .0) in
+    let k = act-kept a m i on in
+    let more = quiet acts (does a m) i (act-open a m i o k) (both .1) in
+    record {
+      kept = rw (k, more .kept);
+      whole = unbroken-more (happensAt m i a) (happened (does a m) i acts) (bayAt m i) ∙ rw (act-whole a m i o on, ← act-happens a m i k, more .whole);
+      ticks = ticks-more (happensAt m i a) (happened (does a m) i acts) ∙ rw (act-ticks a m i o, more .ticks);
+    }
+
 -- ---- the promise
 
 -- Bay i of m, in which a wait runs, after acts: what has happened to it by them.
-module _ (m : Machine) (sound : Sound m) (i : ℕ) (runs : 0 < waitOf m i) (acts : List Act) (u : Undisturbed m i acts) where
+module _ (m : Machine) (sound : Sound m) (i : ℕ) (runs : 0 < waitOf m i) (acts : List Act) (u : undisturbed m i acts ≡ true) where
   abbrev now : Machine
   now = doesAll acts m
 
   abbrev by-then : Bay
   by-then = happensAll (happened m i acts) (bayAt m i)
 
+  run : Quiet m i acts
+  run = quiet acts m i (waits-open m sound i runs) u
+
   same : bayAt now i ≡ by-then
-  same = bay-run acts m i (u .kept)
+  same = bay-run acts m i (run .kept)
 
   still-open : isOpen now i ≡ true
-  still-open = open-run acts m i (waits-open m sound i runs) (u .kept)
+  still-open = open-run acts m i (waits-open m sound i runs) (run .kept)
 
   ticks-so : bayAt (does Tick now) i ≡ tickedBay (settingOf now) (bayAt now i)
   ticks-so = moves now i .tick still-open
@@ -83,21 +148,21 @@ module _ (m : Machine) (sound : Sound m) (i : ℕ) (runs : 0 < waitOf m i) (acts
   promise : Waits (waitOf m i) (bayAt m i)
   promise = waits (bayAt m i) (sound .bays i) runs
 
-  goes-on : ticksTo m i acts < waitOf m i → Seating (waitOf m i - ticksTo m i acts) (bayAt now i)
-  goes-on l = rw same (promise .goes-on (happened m i acts) (u .whole) l)
+  goes-on : ticksIn acts < waitOf m i → Seating (waitOf m i - ticksIn acts) (bayAt now i)
+  goes-on l = rw (same, ← run .ticks) (promise .goes-on (happened m i acts) (run .whole) (rw (run .ticks) l))
 
-  ends : suc (ticksTo m i acts) ≡ waitOf m i → present (bayAt (does Tick now) i) ≡ true → Seated (bayAt now i) (bayAt (does Tick now) i)
+  ends : suc (ticksIn acts) ≡ waitOf m i → present (bayAt (does Tick now) i) ≡ true → Seated (bayAt now i) (bayAt (does Tick now) i)
   ends k p =
       let there = rw (ticks-so, same) at p in
-      rw (ticks-so, same) (promise .ends (happened m i acts) (settingOf now) (u .whole) k (rw there (and-false (present by-then))))
+      rw (ticks-so, same) (promise .ends (happened m i acts) (settingOf now) (run .whole) (rw (run .ticks) k) (rw there (and-false (present by-then))))
 
   -- What breaks it off in any of its ticks.
-  module _ (l : ticksTo m i acts < waitOf m i) where
+  module _ (l : ticksIn acts < waitOf m i) where
     device : present by-then ≡ true
-    device = promise .goes-on (happened m i acts) (u .whole) l .device
+    device = promise .goes-on (happened m i acts) (run .whole) (rw (run .ticks) l) .device
 
     off : (x : Happens) → breaks x by-then ≡ true → Broken x (happens x by-then)
-    off x q = promise .broken (happened m i acts) x (u .whole) l q
+    off x q = promise .broken (happened m i acts) x (run .whole) (rw (run .ticks) l) q
 
     asks-so : (v : ℕ) → asks (controlOf v) ≡ not (asksNothing v by-then)
     asks-so v = sym (and-true (asks (controlOf v))) ∙ ap (λ d. asks (controlOf v) && d) (sym device) ∙ asks-by v by-then

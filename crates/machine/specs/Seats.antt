@@ -1,37 +1,57 @@
 -- What a wait promises over acts (document 02, request 6): the bay's own promise (bay/specs/Waits.antt), said of the machine that it is in.
-use Prim.Native.Nat.{ℕ, suc, _-_, _/_, _%_, _<_}
+use Prim.Native.Nat.{ℕ, suc, _+_, _-_, _/_, _%_, _<_}
 use mathlib.Core.Path.{_≡_}
-use mathlib.Core.Bool.{Bool, true, false}
-use mathlib.Core.List.{List}
+use mathlib.Core.Bool.{Bool, true, false, not, _&&_, _||_}
+use mathlib.Core.List.{List, [], _∷_}
+use lib.Dec.{eqb}
 use Rattle.bits.specs.Bits.{bit}
 use Rattle.bay.specs.Record.{present}
 use Rattle.bay.specs.Table.{asksNothing}
-use Rattle.bay.specs.Waits.{unbroken, ticksOf, Seating, Seated}
+use Rattle.bay.specs.Waits.{Seating, Seated}
 use Rattle.bay.specs.declared.Bay.{Bay}
 use Rattle.machine.specs.Record.{bayAt}
 use Rattle.machine.specs.Acts.{does, doesAll}
 use Rattle.machine.specs.After.{bcerAddress, closes}
-use Rattle.machine.specs.Happens.{happened, remade}
 use Rattle.machine.specs.declared.Machine.{Machine}
 use Rattle.machine.specs.declared.Act.{Act}
-use Rattle.machine.specs.declared.Act.the-variants.{Write, Tick, Reset}
+use Rattle.machine.specs.declared.Act.the-variants.{Write, Read, Pins, Tick, Reset}
 
--- Acts by which the bay stays the one that it is, and of which none breaks a wait off. Whatever is written to other addresses, 42h among
--- them, or to the other bay is such an act.
-pub record Undisturbed (m : Machine) (i : ℕ) (acts : List Act) : Type 0 where
-  pub kept : remade m i acts ≡ false
-  pub whole : unbroken (happened m i acts) (bayAt m i) ≡ true
+-- A byte written to the bay's BCER: DEVSTSCHG_EN, bit 2, is written 0, or a state is asked for with a device present.
+abbrev pub clearsOrAsks : Machine → ℕ → ℕ → Bool
+clearsOrAsks m i v = not (bit 2 v) || not (asksNothing v (bayAt m i))
 
--- How many TICKs the bay has of them.
-abbrev pub ticksTo : Machine → ℕ → List Act → ℕ
-ticksTo m i acts = ticksOf (happened m i acts)
+-- What ends a wait: such a write, closing the bay, a TICK after which the device isn't there, and RESET. No other act does, whatever it
+-- writes, 42h and the other bay's registers included.
+unfoldable pub endsWait : Machine → ℕ → Act → Bool
+endsWait m i (Write a v) = eqb a (bcerAddress i) && clearsOrAsks m i v || closes m i a v
+endsWait m i (Read a) = false
+endsWait m i (Pins levels) = false
+endsWait m i Tick = not (present (bayAt (does Tick m) i))
+endsWait m i (Reset straps levels short) = true
+
+-- None of these acts does.
+unfoldable pub undisturbed : Machine → ℕ → List Act → Bool
+undisturbed m i [] = true
+undisturbed m i (a ∷ acts) = not (endsWait m i a) && undisturbed (does a m) i acts
+
+-- How many TICKs there are among them.
+abbrev pub oneTick : Act → ℕ
+oneTick (Write a v) = 0
+oneTick (Read a) = 0
+oneTick (Pins levels) = 0
+oneTick Tick = 1
+oneTick (Reset straps levels short) = 0
+
+abbrev pub ticksIn : List Act → ℕ
+ticksIn [] = 0
+ticksIn (a ∷ acts) = oneTick a + ticksIn acts
 
 -- No wait runs, in that state.
 pub record Over (state : ℕ) (b : Bay) : Type 0 where
   pub none : b .wait ≡ 0
   pub stands : b .state ≡ state
 
--- What ends a wait, and where the bay is then.
+-- Each of them ends one, and where the bay is then.
 pub record BrokenOff (m : Machine) (i : ℕ) : Type 0 where
   -- Removal.
   pub removal : present (bayAt (does Tick m) i) ≡ false → Over 0 (bayAt (does Tick m) i)
@@ -47,10 +67,10 @@ pub record BrokenOff (m : Machine) (i : ℕ) : Type 0 where
 -- The promise, of a wait of n ticks in bay i.
 pub record Seats (n : ℕ) (m : Machine) (i : ℕ) : Type 0 where
   -- Until its last tick the device seats.
-  pub goes-on : (acts : List Act) → Undisturbed m i acts → ticksTo m i acts < n → Seating (n - ticksTo m i acts) (bayAt (doesAll acts m) i)
+  pub goes-on : (acts : List Act) → undisturbed m i acts ≡ true → ticksIn acts < n → Seating (n - ticksIn acts) (bayAt (doesAll acts m) i)
   -- In its last tick the bay is Inserted, unless the device leaves.
   pub ends :
-      (acts : List Act) → Undisturbed m i acts → suc (ticksTo m i acts) ≡ n → present (bayAt (does Tick (doesAll acts m)) i) ≡ true
+      (acts : List Act) → undisturbed m i acts ≡ true → suc (ticksIn acts) ≡ n → present (bayAt (does Tick (doesAll acts m)) i) ≡ true
       → Seated (bayAt (doesAll acts m) i) (bayAt (does Tick (doesAll acts m)) i)
   -- In any of them it can be broken off.
-  pub broken : (acts : List Act) → Undisturbed m i acts → ticksTo m i acts < n → BrokenOff (doesAll acts m) i
+  pub broken : (acts : List Act) → undisturbed m i acts ≡ true → ticksIn acts < n → BrokenOff (doesAll acts m) i
