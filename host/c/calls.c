@@ -88,7 +88,7 @@ static void test_begin(void) {
 }
 
 /* A state of another length is refused by every call, and neither read nor written: here NULL serves as well. */
-static void refuse_length(uint8_t *bytes, size_t length) {
+static void refuse_length(uint8_t *bytes, uint64_t length) {
     CHECK(dock_begin(bytes, length) == 0x00010000u);
     CHECK(dock_step(bytes, length, 0xC0BF) == 0x10000000u);
     CHECK(dock_batch(bytes, length, words, 1, records, DOCK_RECORD_BYTES) == 0x00010000u);
@@ -106,6 +106,12 @@ static void test_lengths(void) {
         begin();
         refuse_length(state, length);
         refuse_length(NULL, length);
+    }
+    /* A length has 64 bits, and all of them count. */
+    for (uint64_t more = 0x10000; more != 0; more *= 2) {
+        begin();
+        refuse_length(state, more + DOCK_STATE_BYTES);
+        refuse_length(NULL, more);
     }
 }
 

@@ -16,8 +16,9 @@
  * Any bytes at all may come back as a state: those that are no image of a fit state are refused with 1. The library
  * keeps nothing between calls, takes no memory but some of the stack, and calls nothing outside itself.
  *
- * A list is a pointer and the number of its elements (not bytes). Any bytes, words, numbers and lengths are taken: a
- * call returns, and what it cannot do it refuses with a number, and leaves the state and every list as they came.
+ * A list is a pointer and the number of its elements (not bytes). That number has 64 bits on every processor, also where
+ * size_t has fewer. Any bytes, words, numbers and lengths are taken: a call returns, and what it cannot do it refuses
+ * with a number, and leaves the state and every list as they came.
  *
  * What a call cannot see stays the caller's duty:
  * - A pointer leads to as many elements as the call is told, aligned for their type, and writable where it is not
@@ -144,27 +145,27 @@ enum dock_output {
  * are 0 but where dock_unpack uses them ---- */
 
 /* Writes the image of a fresh state, which has had no RESET yet. Value: 0. */
-uint32_t dock_begin(uint8_t *state, size_t state_len);
+uint32_t dock_begin(uint8_t *state, uint64_t state_len);
 
 /* One event. The answer is the event's record as a number, and has a layout of its own: refusal in bits 31-28, reply in
  * 27-25, byte in 24-17, outputs in 16-8, zeros in 7-0. With refusal 1 everything below it is 0; with 2 and 3 the state
  * stays as it was and its outputs are told. */
-uint32_t dock_step(uint8_t *state, size_t state_len, uint16_t word);
+uint32_t dock_step(uint8_t *state, uint64_t state_len, uint16_t word);
 
 /* The words one after the other, each as by dock_step, and for each a record of four bytes, in order, from records[0]
  * on: the number that dock_step answers, most significant byte first. A word that is refused with 2 or 3 has its record
  * like any other. Bytes past the last record are not touched. Value: the count of records. */
-uint32_t dock_batch(uint8_t *state, size_t state_len, const uint16_t *words, size_t words_len, uint8_t *records,
-                    size_t records_len);
+uint32_t dock_batch(uint8_t *state, uint64_t state_len, const uint16_t *words, uint64_t words_len, uint8_t *records,
+                    uint64_t records_len);
 
 /* Value: what the register at the address reads, outside the bus. */
-uint32_t dock_reading(const uint8_t *state, size_t state_len, uint8_t address);
+uint32_t dock_reading(const uint8_t *state, uint64_t state_len, uint8_t address);
 
 /* Value: the nine outputs. */
-uint32_t dock_outputs(const uint8_t *state, size_t state_len);
+uint32_t dock_outputs(const uint8_t *state, uint64_t state_len);
 
 /* As dock_batch, from a fresh state that nobody keeps. */
-uint32_t dock_replay(const uint16_t *words, size_t words_len, uint8_t *records, size_t records_len);
+uint32_t dock_replay(const uint16_t *words, uint64_t words_len, uint8_t *records, uint64_t records_len);
 
 /* Value: the word of an event. Three numbers are no event's where the kind is above 7, a TAKE's first number is above
  * 1, a BYTE's or a PINS' above 255, a RESET's above 511, or a number is set that the kind does not have. */

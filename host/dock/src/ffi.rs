@@ -6,21 +6,26 @@
 
 extern "C" {
     fn dock_version() -> u32;
-    fn dock_begin(state: *mut u8, state_len: usize) -> u32;
-    fn dock_step(state: *mut u8, state_len: usize, word: u16) -> u32;
+    fn dock_begin(state: *mut u8, state_len: u64) -> u32;
+    fn dock_step(state: *mut u8, state_len: u64, word: u16) -> u32;
     fn dock_batch(
         state: *mut u8,
-        state_len: usize,
+        state_len: u64,
         words: *const u16,
-        words_len: usize,
+        words_len: u64,
         records: *mut u8,
-        records_len: usize,
+        records_len: u64,
     ) -> u32;
-    fn dock_reading(state: *const u8, state_len: usize, address: u8) -> u32;
-    fn dock_outputs(state: *const u8, state_len: usize) -> u32;
-    fn dock_replay(words: *const u16, words_len: usize, records: *mut u8, records_len: usize) -> u32;
+    fn dock_reading(state: *const u8, state_len: u64, address: u8) -> u32;
+    fn dock_outputs(state: *const u8, state_len: u64) -> u32;
+    fn dock_replay(words: *const u16, words_len: u64, records: *mut u8, records_len: u64) -> u32;
     fn dock_pack(kind: u8, first: u16, second: u8) -> u32;
     fn dock_unpack(word: u16) -> u32;
+}
+
+/// A length has 64 bits in the interface, whatever a pointer has.
+fn len<T>(slice: &[T]) -> u64 {
+    slice.len() as u64
 }
 
 pub fn version() -> u32 {
@@ -30,33 +35,33 @@ pub fn version() -> u32 {
 
 pub fn begin(state: &mut [u8]) -> u32 {
     // SAFETY: the slice is lent for writing, and its own length goes with it.
-    unsafe { dock_begin(state.as_mut_ptr(), state.len()) }
+    unsafe { dock_begin(state.as_mut_ptr(), len(state)) }
 }
 
 pub fn step(state: &mut [u8], word: u16) -> u32 {
     // SAFETY: the slice is lent for writing, and its own length goes with it.
-    unsafe { dock_step(state.as_mut_ptr(), state.len(), word) }
+    unsafe { dock_step(state.as_mut_ptr(), len(state), word) }
 }
 
 pub fn batch(state: &mut [u8], words: &[u16], records: &mut [u8]) -> u32 {
     let (words_at, records_at) = (words.as_ptr(), records.as_mut_ptr());
     // SAFETY: three slices, each with its own length; the two lent for writing overlap nothing.
-    unsafe { dock_batch(state.as_mut_ptr(), state.len(), words_at, words.len(), records_at, records.len()) }
+    unsafe { dock_batch(state.as_mut_ptr(), len(state), words_at, len(words), records_at, len(records)) }
 }
 
 pub fn reading(state: &[u8], address: u8) -> u32 {
     // SAFETY: the slice goes with its own length; the call only reads.
-    unsafe { dock_reading(state.as_ptr(), state.len(), address) }
+    unsafe { dock_reading(state.as_ptr(), len(state), address) }
 }
 
 pub fn outputs(state: &[u8]) -> u32 {
     // SAFETY: the slice goes with its own length; the call only reads.
-    unsafe { dock_outputs(state.as_ptr(), state.len()) }
+    unsafe { dock_outputs(state.as_ptr(), len(state)) }
 }
 
 pub fn replay(words: &[u16], records: &mut [u8]) -> u32 {
     // SAFETY: two slices, each with its own length; the one lent for writing doesn't overlap the other.
-    unsafe { dock_replay(words.as_ptr(), words.len(), records.as_mut_ptr(), records.len()) }
+    unsafe { dock_replay(words.as_ptr(), len(words), records.as_mut_ptr(), len(records)) }
 }
 
 pub fn pack(kind: u8, first: u16, second: u8) -> u32 {
