@@ -1,24 +1,8 @@
 # shellcheck shell=bash disable=SC2154
 # Sourced by host/run on a processor that is not x86-64: the library links into x86-64 programs only, so this fetches
 # what builds such programs. Rust's compiler for this machine, Rust's and C's libraries for x86-64 and the C headers
-# come from Debian's packages, and are unpacked below the folder $cross: nothing is installed, and no right of root is
-# needed. C compiler, linker and emulator are those of the Rattle toolchain, in the folder $tools.
-
-# Package lists and downloads of our own, so that the machine's are left as they are.
-write_apt_configuration() {
-    mkdir -p "$cross/lists/partial" "$cross/archives/partial" "$cross/amd64"
-    cat >"$cross/apt.conf" <<END
-Dir::State::lists "$cross/lists";
-Dir::Cache::archives "$cross/archives";
-Dir::Cache::pkgcache "";
-Dir::Cache::srcpkgcache "";
-APT::Architectures { "$(dpkg --print-architecture)"; "amd64"; };
-APT::Sandbox::User "root";
-Acquire::Languages "none";
-Acquire::Retries "3";
-Debug::NoLocking "true";
-END
-}
+# come from Debian's packages, and are unpacked below the folder $cross. C compiler, linker and emulator are those of the
+# Rattle toolchain, in the folder $tools.
 
 # The default gcc of this Debian names the package that has libgcc and the headers of the compiler.
 gcc_version() {
@@ -26,38 +10,22 @@ gcc_version() {
 }
 
 # rustc with the libraries that it needs and this machine lacks, then the x86-64 part.
-download_packages() {
+download_cross_tools() {
+    mkdir "$cross/amd64"
     apt-get -q update &&
         apt-get -q -y --no-install-recommends --reinstall --download-only install rustc &&
         cd "$cross/amd64" && apt-get -q download libc6-dev:amd64 linux-libc-dev:amd64 libstd-rust-dev:amd64 \
         "libgcc-$(gcc_version)-dev:amd64"
 }
 
-unpack_packages() {
-    local package
-    mkdir "$cross/root"
-    for package in "$cross"/archives/*.deb "$cross"/amd64/*.deb; do
-        dpkg-deb -x "$package" "$cross/root"
-    done
-    rm -rf "$cross/archives" "$cross/amd64" "$cross/lists"
+unpack_cross_tools() {
+    unpack_into "$cross/root" "$cross"/archives/*.deb "$cross"/amd64/*.deb
+    rm -rf "$cross/amd64"
 }
 
 fetch_cross_tools() {
-    [ ! -e "$cross/ready" ] || return 0
-    if ! command -v apt-get >/dev/null; then
-        echo "host/run: on $(uname -m) this needs Debian's apt-get, to fetch libraries for x86-64" >&2
-        return 1
-    fi
-    echo "host/run: fetching Rust and C libraries for x86-64 (once)" >&2
-    rm -rf "$cross"
-    write_apt_configuration
-    if ! (export APT_CONFIG="$cross/apt.conf" && download_packages) >"$cross/log" 2>&1; then
-        tail -n 5 "$cross/log" >&2
-        echo "host/run: the packages could not be fetched: $cross/log" >&2
-        return 1
-    fi
-    unpack_packages
-    touch "$cross/ready"
+    fetch_packages "$cross" "Rust and C libraries for x86-64" download_cross_tools unpack_cross_tools \
+        "APT::Architectures { \"$(dpkg --print-architecture)\"; \"amd64\"; };"
 }
 
 # Programs are linked statically, so that the emulator needs no x86-64 libraries to run them.

@@ -1,5 +1,6 @@
-/* A board made of text: stands in for the pins, the bus, the timer and the memory of a real one. It reads a script, one
- * thing that happens on a line, and prints what the firmware drives and answers. Nothing here is to be copied.
+/* A board made of text: stands in for the pins, the bus and the memory of a real one, and on a PC for its interrupts
+ * and its timer too (chip.h). It reads a script, one thing that happens on a line, and prints what the firmware drives
+ * and answers. Nothing here is to be copied.
  *
  *   straps H, pins HH     how the straps are wired, and 100 more for the short unlock pulse; the inputs change, with an
  *                         interrupt where the power is on
@@ -14,6 +15,7 @@
  *   registers             what the four bay registers read, asked outside the bus
  */
 #include "board.h"
+#include "chip.h"
 #include "firmware.h"
 
 #include <stdio.h>
@@ -42,15 +44,20 @@ static uint8_t levels = NONE_ASSERTED;
 static uint16_t driven;
 static int powered, listening;
 static unsigned written, written_from, writes_left = NEVER;
-static unsigned without_room;
+static volatile unsigned without_room; /* interrupts count it */
 static struct event coming[MOST_EVENTS];
 static unsigned events_coming, next_event;
+static struct event on_line; /* what the line's interrupt finds */
 
 /* ---- what the firmware asks ---- */
 
 uint16_t board_straps(void) { return straps; }
 uint8_t board_levels(void) { return levels; }
-void board_listen(void) { listening = 1; }
+
+void board_listen(void) {
+    listening = 1;
+    chip_listen();
+}
 
 static void print_outputs(uint16_t outputs) {
     static const char *const names[9] = {"power 0", "lock 0",  "green 0",  "yellow 0", "power 1",
@@ -125,9 +132,9 @@ static void add_read(unsigned address) {
     add(DOCK_STOP, 0, 0, 1);
 }
 
-/* An interrupt. One that finds no room lets go of the bus itself. */
+/* Inside an interrupt. One that finds no room lets go of the bus itself. */
 static void interrupt(struct event event) {
-    if (!listening || firmware_event(&dock, event.kind, event.first, event.second)) {
+    if (firmware_event(&dock, event.kind, event.first, event.second)) {
         return;
     }
     without_room++;
@@ -139,12 +146,31 @@ static void interrupt(struct event event) {
     }
 }
 
+void board_line(void) { interrupt(on_line); }
+
+void board_timer(void) {
+    struct event tick = {DOCK_TICK, 0, 0, 1};
+    interrupt(tick);
+}
+
+static void happen(struct event event) {
+    if (!listening) {
+        return;
+    }
+    if (event.kind == DOCK_TICK) {
+        chip_tick();
+    } else {
+        on_line = event;
+        chip_raise();
+    }
+}
+
 static void flood(unsigned count, struct event last) {
     struct event tick = {DOCK_TICK, 0, 0, 1};
     for (unsigned i = 0; i < count; i++) {
-        interrupt(tick);
+        happen(tick);
     }
-    interrupt(last);
+    happen(last);
 }
 
 static void flood_pins(unsigned count, unsigned value) {
@@ -273,7 +299,7 @@ int board_wait(void) {
     }
     if (next_event < events_coming) {
         coming[next_event].times--;
-        interrupt(coming[next_event]);
+        happen(coming[next_event]);
         return 1;
     }
     events_coming = next_event = 0;

@@ -1,0 +1,55 @@
+/* The interrupts of a Cortex-M: SysTick every ten milliseconds, and the first line of the interrupt controller, which
+ * is pended by hand where a board's bus and inputs would. CLOCK_HZ is how fast the board's processor is. */
+#include "../c/chip.h"
+
+#include <stdint.h>
+
+#define REGISTER(address) (*(volatile uint32_t *)(address))
+#define TIMER_CONTROL REGISTER(0xE000E010)
+#define TIMER_RELOAD REGISTER(0xE000E014)
+#define TIMER_COUNT REGISTER(0xE000E018)
+#define LINES_ENABLE REGISTER(0xE000E100)
+#define LINES_PEND REGISTER(0xE000E200)
+
+#define RUN_FROM_CLOCK_WITH_INTERRUPT 7u
+#define LINE_0 1u
+#define TICKS_A_SECOND 100u
+
+/* The script waits for a tick. The timer never stops, but between the script's lines time stands still: a tick that
+ * nothing waits for is none. */
+static volatile uint8_t awaited;
+
+void chip_timer_interrupt(void);
+void chip_line_interrupt(void);
+
+void chip_timer_interrupt(void) {
+    if (awaited) {
+        awaited = 0;
+        board_timer();
+    }
+}
+
+void chip_line_interrupt(void) { board_line(); }
+
+void chip_listen(void) {
+    TIMER_RELOAD = CLOCK_HZ / TICKS_A_SECOND - 1;
+    TIMER_COUNT = 0;
+    TIMER_CONTROL = RUN_FROM_CLOCK_WITH_INTERRUPT;
+    LINES_ENABLE = LINE_0;
+}
+
+/* The barriers have it come before anything that follows. */
+void chip_raise(void) {
+    LINES_PEND = LINE_0;
+    __asm__ volatile("dsb\n\tisb" ::: "memory");
+}
+
+/* Asleep with interrupts held back, so that none falls between the look and the sleep: a pending one ends it. */
+void chip_tick(void) {
+    awaited = 1;
+    __asm__ volatile("cpsid i" ::: "memory");
+    while (awaited) {
+        __asm__ volatile("wfi\n\tcpsie i\n\tisb\n\tcpsid i" ::: "memory");
+    }
+    __asm__ volatile("cpsie i" ::: "memory");
+}

@@ -1,0 +1,50 @@
+/* Counting instructions on an emulated board, which is told that each takes the same time. What the processor counts is
+ * that time; how much of it an instruction takes is measured on some that do nothing. */
+#ifndef COUNT_H
+#define COUNT_H
+
+#include <stdint.h>
+
+#define CALIBRATION 1024u
+
+#ifdef __riscv
+
+#define STACK_POINTER "mv %0, sp"
+
+static inline void count_start(void) {}
+
+static inline uint32_t count_now(void) {
+    uint32_t count;
+    __asm__ volatile("csrr %0, minstret" : "=r"(count)::"memory");
+    return count;
+}
+
+static inline uint32_t count_between(uint32_t before, uint32_t after) { return after - before; }
+
+#else
+
+#define STACK_POINTER "mov %0, sp"
+
+/* The SysTick timer of a Cortex-M counts the processor's clock downwards in 24 bits. */
+#define TIMER(offset) (*(volatile uint32_t *)(0xE000E010u + (offset)))
+#define TIMER_BITS 0xFFFFFFu
+#define RUN_FROM_CLOCK 5u
+
+static inline void count_start(void) {
+    TIMER(4) = TIMER_BITS;
+    TIMER(8) = 0;
+    TIMER(0) = RUN_FROM_CLOCK;
+}
+
+static inline uint32_t count_now(void) { return TIMER(8); }
+static inline uint32_t count_between(uint32_t before, uint32_t after) { return (before - after) & TIMER_BITS; }
+
+#endif
+
+static inline uint32_t *stack_now(void) {
+    uint32_t *top;
+    __asm__ volatile(STACK_POINTER : "=r"(top));
+    return top;
+}
+
+#endif

@@ -1,0 +1,210 @@
+/* What calls take on the board: the stack that they write to and the instructions that they run, of the library and of
+ * the C controller beside it. Prints a line for each, its numbers behind bars:
+ *
+ *   what | instructions of the library | of the C controller | stack of the library | of the C controller
+ *
+ * The stack below this program is painted before a call, and the deepest word that lost its paint is looked for after
+ * it. How instructions are counted is in count.h. What an empty call takes is subtracted from both. */
+#include "../plain/held.h"
+#include "count.h"
+#include "dock.h"
+
+#include <stdint.h>
+#include <stdio.h>
+
+#define COUNT(list) (sizeof(list) / sizeof((list)[0]))
+#define PAINT 0xA5A5A5A5u
+#define WORDS 33u
+
+extern uint32_t bss_end[];
+
+static uint8_t state[DOCK_STATE_BYTES];
+static uint16_t word;
+static uint16_t words[WORDS];
+static unsigned words_len;
+static uint8_t records[WORDS * DOCK_RECORD_BYTES];
+static volatile uint32_t answer;
+
+/* ---- calls ---- */
+
+typedef void call(void);
+
+static void nothing(void) { answer = 0; }
+static void library_begin(void) { answer = dock_begin(state, sizeof state); }
+static void library_step(void) { answer = dock_step(state, sizeof state, word); }
+static void library_batch(void) { answer = dock_batch(state, sizeof state, words, words_len, records, sizeof records); }
+static void library_replay(void) { answer = dock_replay(words, words_len, records, sizeof records); }
+static void library_reading(void) { answer = dock_reading(state, sizeof state, 0x10); }
+static void library_outputs(void) { answer = dock_outputs(state, sizeof state); }
+static void library_pack(void) { answer = dock_pack(DOCK_BYTE, 0x90, 0); }
+static void library_unpack(void) { answer = dock_unpack(0x4090); }
+static void library_version(void) { answer = dock_version(); }
+static void c_begin(void) { plain_begin(); }
+static void c_step(void) { answer = plain_step(word); }
+static void c_batch(void) { plain_batch(words, words_len, records); }
+static void c_reading(void) { answer = plain_register(0x10); }
+static void c_outputs(void) { answer = plain_pins(); }
+
+/* ---- measures ---- */
+
+struct cost {
+    uint32_t instructions, stack;
+};
+
+/* Counts of as many instructions as the calibration has. */
+static uint32_t calibrated;
+
+static void no_instructions(void) {}
+static void known_instructions(void) { __asm__ volatile(".rept 1024\n\tnop\n\t.endr"); }
+
+/* Volatile, so that the compiler knows of no call what it does, the empty one included. */
+static call *volatile measured;
+
+/* Everything between the variables and this function's own frame is free. That is volatile too, or the loop would be a
+ * call that paints the stack under its own feet. */
+__attribute__((noinline)) static struct cost raw_cost(call *this_one) {
+    volatile uint32_t *top = stack_now(), *at;
+    struct cost cost;
+    measured = this_one;
+    for (at = bss_end; at < top; at++) {
+        *at = PAINT;
+    }
+    uint32_t before = count_now();
+    measured();
+    cost.instructions = count_between(before, count_now());
+    for (at = bss_end; at < top && *at == PAINT; at++) {
+    }
+    cost.stack = (uint32_t)((uintptr_t)top - (uintptr_t)at);
+    return cost;
+}
+
+static void calibrate(void) {
+    count_start();
+    calibrated = raw_cost(known_instructions).instructions - raw_cost(no_instructions).instructions;
+}
+
+/* Rounded, and without a product that is too large. */
+static uint32_t instructions_in(uint32_t counts) {
+    uint32_t rest = counts % calibrated;
+    return counts / calibrated * CALIBRATION + (rest * CALIBRATION + calibrated / 2) / calibrated;
+}
+
+static struct cost cost_of(call *this_one) {
+    struct cost empty = raw_cost(nothing), cost = raw_cost(this_one);
+    cost.instructions = instructions_in(cost.instructions - empty.instructions);
+    cost.stack -= empty.stack;
+    return cost;
+}
+
+static void tell(const char *what, struct cost library, struct cost c) {
+    printf("%s|%lu|%lu|%lu|%lu\n", what, (unsigned long)library.instructions, (unsigned long)c.instructions,
+           (unsigned long)library.stack, (unsigned long)c.stack);
+}
+
+static void tell_both(const char *what, call *library, call *c) { tell(what, cost_of(library), cost_of(c)); }
+
+static void tell_alone(const char *what, call *library) {
+    struct cost cost = cost_of(library);
+    printf("%s|%lu||%lu|\n", what, (unsigned long)cost.instructions, (unsigned long)cost.stack);
+}
+
+/* ---- events, one step each ---- */
+
+struct event {
+    const char *name; /* none: it only leads on */
+    uint16_t word;
+};
+
+/* A cartridge in bay 0 is enabled by a write, its status is read, its button goes down, and it leaves. */
+static const struct event events[] = {
+    {"RESET", 0xC0BF},
+    {"START", 0x0000},
+    {"BYTE: own address", 0x4090},
+    {"BYTE: register", 0x4014},
+    {"BYTE: data", 0x40AD},
+    {"STOP: writes BCER", 0x2000},
+    {"TICK: nothing to do", 0xA000},
+    {0, 0x0000},
+    {0, 0x4090},
+    {0, 0x4010},
+    {"START: second", 0x0000},
+    {"BYTE: own address, reads BSTR", 0x4091},
+    {"TAKE", 0x6000},
+    {"STOP: nothing open", 0x2000},
+    {"PINS: a button", 0x809F},
+    {"TICK: a level counted", 0xA000},
+    {0, 0xA000},
+    {0, 0xA000},
+    {0, 0xA000},
+    {"TICK: a press accepted", 0xA000},
+    {"TIMEOUT", 0xE000},
+    {"a word refused with 2", 0xA001},
+};
+
+static void tell_events(void) {
+    library_begin();
+    c_begin();
+    for (unsigned i = 0; i < COUNT(events); i++) {
+        word = events[i].word;
+        if (events[i].name == 0) {
+            library_step();
+            c_step();
+        } else {
+            tell_both(events[i].name, library_step, c_step);
+        }
+    }
+}
+
+/* ---- batches ---- */
+
+/* A write of BCER and a read of BSTR, both of bay 0. */
+static const uint16_t commands[] = {0x0000, 0x4090, 0x4014, 0x40AD, 0x2000, 0x0000,
+                                    0x4090, 0x4010, 0x0000, 0x4091, 0x6000};
+static const uint16_t ticks[] = {0xA000};
+
+static void fill(const uint16_t *part, unsigned length) {
+    words_len = WORDS;
+    for (unsigned i = 0; i < WORDS; i++) {
+        words[i] = part[i % length];
+    }
+}
+
+/* One word's share, and the stack of all. */
+static struct cost share(struct cost cost) {
+    cost.instructions = (cost.instructions + WORDS / 2) / WORDS;
+    return cost;
+}
+
+static void tell_batch(const char *what, const uint16_t *part, unsigned length) {
+    word = 0xC0BF;
+    library_step();
+    c_step();
+    fill(part, length);
+    tell(what, share(cost_of(library_batch)), share(cost_of(c_batch)));
+}
+
+static void tell_empty_batch(void) {
+    words_len = 0;
+    tell("dock_batch of no words", cost_of(library_batch), cost_of(c_batch));
+}
+
+int main(void) {
+    calibrate();
+    printf("events\n");
+    tell_events();
+    printf("batches\n");
+    tell_empty_batch();
+    tell_batch("33 ticks, each", ticks, COUNT(ticks));
+    tell_batch("33 bus events, each", commands, COUNT(commands));
+    printf("calls\n");
+    tell_both("dock_begin", library_begin, c_begin);
+    tell_both("dock_outputs", library_outputs, c_outputs);
+    tell_both("dock_reading of BSTR", library_reading, c_reading);
+    fill(ticks, COUNT(ticks));
+    tell_alone("dock_replay of 33 words", library_replay);
+    tell_alone("dock_pack", library_pack);
+    tell_alone("dock_unpack", library_unpack);
+    tell_alone("dock_version", library_version);
+    printf("state|%u|%u\n", (unsigned)sizeof state, (unsigned)plain_bytes());
+    return 0;
+}
