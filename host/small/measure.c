@@ -115,7 +115,7 @@ struct event {
     uint16_t word;
 };
 
-/* A cartridge in bay 0 is enabled by a write, its status is read, its button goes down, and it leaves. */
+/* A cartridge in bay 0 is enabled by a write, its status is read, and its button goes down. */
 static const struct event events[] = {
     {"RESET", 0xC0BF},
     {"START", 0x0000},
@@ -185,7 +185,7 @@ static void tell_batch(const char *what, const uint16_t *part, unsigned length) 
 
 static void tell_empty_batch(void) {
     words_len = 0;
-    tell("dock_batch of no words", cost_of(library_batch), cost_of(c_batch));
+    tell("no words: the image loaded, tested and saved", cost_of(library_batch), cost_of(c_batch));
 }
 
 int main(void) {
@@ -197,9 +197,9 @@ int main(void) {
     tell_batch("33 ticks, each", ticks, COUNT(ticks));
     tell_batch("33 bus events, each", commands, COUNT(commands));
     printf("calls\n");
-    tell_both("dock_begin", library_begin, c_begin);
-    tell_both("dock_outputs", library_outputs, c_outputs);
-    tell_both("dock_reading of BSTR", library_reading, c_reading);
+    tell_both("dock_begin: a fresh image", library_begin, c_begin);
+    tell_both("dock_outputs: an image loaded and tested", library_outputs, c_outputs);
+    tell_both("dock_reading of BSTR: the same", library_reading, c_reading);
     fill(ticks, COUNT(ticks));
     tell_alone("dock_replay of 33 words", library_replay);
     tell_alone("dock_pack", library_pack);

@@ -149,7 +149,7 @@ tell_processor() {
 
 $(tell_measured "$1" events "instructions of an event, by one step")
 
-$(tell_measured "$1" batches "instructions of batches")
+$(tell_measured "$1" batches "instructions by a batch")
 
 $(tell_measured "$1" calls "instructions of the other calls")
 
