@@ -21,6 +21,10 @@
 
 enum { LINE_BYTES = 256, BATCH_WORDS = 32, MISUSED = 2 };
 
+/* Fowler, Noll and Vo's sum, of 32 bits. */
+#define SUM_START 2166136261u
+#define SUM_FACTOR 16777619u
+
 static uint8_t state[DOCK_STATE_BYTES];
 static struct words words;
 /* The C controller has no image to go on from, so it stands aside after a load until a RESET. */
@@ -30,10 +34,9 @@ static uint32_t sum;
 
 /* ---- one word, one batch ---- */
 
-/* Fowler, Noll and Vo's sum, of 32 bits. */
 static void add(const uint8_t *bytes, unsigned length) {
     for (unsigned i = 0; i < length; i++) {
-        sum = (sum ^ bytes[i]) * 16777619u;
+        sum = (sum ^ bytes[i]) * SUM_FACTOR;
     }
 }
 
@@ -83,7 +86,7 @@ static void begin(void) {
 }
 
 static void play_stream(unsigned seed, unsigned count) {
-    sum = 2166136261u;
+    sum = SUM_START;
     words_begin(&words, seed, state);
     for (unsigned i = 0; i < count; i++) {
         step(words_next(&words));
@@ -93,7 +96,7 @@ static void play_stream(unsigned seed, unsigned count) {
 
 static void play_batches(unsigned seed, unsigned count) {
     static uint16_t list[BATCH_WORDS];
-    sum = 2166136261u;
+    sum = SUM_START;
     words_begin(&words, seed, state);
     for (unsigned done = 0, length; done < count; done += length) {
         length = 1 + done % BATCH_WORDS;
@@ -151,7 +154,7 @@ static int load(const char *hex) {
 }
 
 static void ask_registers(void) {
-    sum = 2166136261u;
+    sum = SUM_START;
     for (unsigned address = 0; address < 256; address++) {
         uint32_t reading = dock_reading(state, sizeof state, (uint8_t)address);
         uint8_t byte = (uint8_t)dock_value(reading);

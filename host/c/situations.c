@@ -4,7 +4,7 @@
 
 #include <stdio.h>
 
-enum { EMPTY, INSERTED, ENABLED, REMOVAL_REQUESTED, REMOVAL_ALLOWED };
+enum { INSERTED = 1, ONE_BAY = 1 };
 
 /* Of a bay. */
 enum { TO_STATE, PRESSED = 5, CHANGED, POWERED, UNPOWERED, PULSE, PULSE_ENDS, WAIT, WAIT_ENDS, WAIT_CUT, OF_BAY };
@@ -47,7 +47,7 @@ void situations_see(const uint8_t *before, const uint8_t *after, uint32_t record
     dock_seen[NOT_ACKED] += reply == DOCK_NO_ACK;
     dock_seen[DRIVES] += reply == DOCK_DRIVEN;
     dock_seen[DRIVES_NOT] += reply == DOCK_NOT_DRIVEN;
-    dock_seen[CLOSES] += before[DOCK_AT_BAY_COUNT] != 1 && after[DOCK_AT_BAY_COUNT] == 1;
+    dock_seen[CLOSES] += before[DOCK_AT_BAY_COUNT] != ONE_BAY && after[DOCK_AT_BAY_COUNT] == ONE_BAY;
     dock_seen[INTERRUPTS] += dock_record_outputs(record) & DOCK_INTERRUPT;
     for (int bay = 0; bay < 2; bay++) {
         see_bay(bay_seen[bay], before, after, bay);

@@ -16,10 +16,12 @@ enum {
     TIMEOUT = 0xE000
 };
 enum { BUTTONS = 0x22 }; /* among the levels */
+enum { DBCCR = 0x0C, BSTR_0 = 0x10, BCER_0 = 0x14, BSTR_1 = 0x18, BCER_1 = 0x1C, LETR = 0x40, WAIT = 0x42 };
 
 /* Every register and some neighbours; BCER and BSTR more often than the others. */
-static const uint8_t registers[] = {0x14, 0x1C, 0x14, 0x1C, 0x14, 0x1C, 0x10, 0x18, 0x10, 0x18, 0x40,
-                                    0x42, 0x0C, 0x00, 0x01, 0x04, 0x02, 0x11, 0x41, 0x43, 0xFF};
+static const uint8_t registers[] = {BCER_0, BCER_1, BCER_0, BCER_1, BCER_0, BCER_1, BSTR_0,
+                                    BSTR_1, BSTR_0, BSTR_1, LETR,   WAIT,   DBCCR,  0x00,
+                                    0x01,   0x04,   0x02,   0x11,   0x41,   0x43,   0xFF};
 /* BCER's bytes that lead somewhere: enables, each request, power with and without its lock. */
 static const uint8_t controls[] = {0x04, 0x08, 0x0C, 0x0E, 0x10, 0x18, 0x1C, 0x28, 0x2C, 0x30,
                                    0x3C, 0x40, 0x42, 0x81, 0xAD, 0x80, 0x8C, 0x8F, 0x00};
@@ -39,6 +41,9 @@ static uint32_t drawn(struct words *words) {
 static unsigned below(struct words *words, unsigned limit) { return (drawn(words) >> 8) % limit; }
 static uint8_t drawn_byte(struct words *words) { return (uint8_t)(drawn(words) >> 11); }
 
+/* The address byte for writing that these straps give. */
+static uint8_t own_by(unsigned straps) { return (uint8_t)(0x90 + 2 * (straps >> 2)); }
+
 /* What comes later is meant for the dock as it then is: its address byte and its levels are kept in mind. */
 static void put(struct words *words, unsigned word) {
     if (words->length == SCENE_WORDS) {
@@ -46,7 +51,7 @@ static void put(struct words *words, unsigned word) {
     }
     words->scene[words->length++] = (uint16_t)word;
     if ((word & KIND) == RESET) {
-        words->own = (uint8_t)(0x90 + 2 * (word >> 10 & 3));
+        words->own = own_by(word >> 8 & 0xF);
         words->levels = (uint8_t)word;
     } else if ((word & ~0xFFu) == PINS) {
         words->levels = (uint8_t)word;
@@ -84,10 +89,10 @@ static unsigned data_byte(struct words *words, unsigned address) {
         return drawn_byte(words);
     }
     switch (address) {
-    case 0x14:
-    case 0x1C: return controls[below(words, COUNT(controls))];
-    case 0x42: return waits[below(words, COUNT(waits))];
-    case 0x0C: return below(words, 8) == 0 ? 1 : 2;
+    case BCER_0:
+    case BCER_1: return controls[below(words, COUNT(controls))];
+    case WAIT: return waits[below(words, COUNT(waits))];
+    case DBCCR: return below(words, 8) == 0 ? 1 : 2;
     default: return below(words, 16);
     }
 }
@@ -180,7 +185,7 @@ static uint8_t levels_of(const uint8_t *state) {
 void words_begin(struct words *words, uint32_t seed, const uint8_t *state) {
     words->random = seed == 0 ? 1 : seed;
     words->length = words->next = 0;
-    words->own = (uint8_t)(0x90 + 2 * (state[DOCK_AT_STRAPS] >> 2));
+    words->own = own_by(state[DOCK_AT_STRAPS]);
     words->levels = levels_of(state);
     for (int i = 0; i < 8; i++) {
         drawn(words);

@@ -1,17 +1,13 @@
 /* The interrupts of a Cortex-M: SysTick every ten milliseconds, and the first line of the interrupt controller, which
  * is pended by hand where a board's bus and inputs would. CLOCK_HZ is how fast the board's processor is. */
 #include "../c/chip.h"
+#include "timer.h"
 
 #include <stdint.h>
 
-#define REGISTER(address) (*(volatile uint32_t *)(address))
-#define TIMER_CONTROL REGISTER(0xE000E010)
-#define TIMER_RELOAD REGISTER(0xE000E014)
-#define TIMER_COUNT REGISTER(0xE000E018)
-#define LINES_ENABLE REGISTER(0xE000E100)
-#define LINES_PEND REGISTER(0xE000E200)
+#define LINES_ENABLE (*(volatile uint32_t *)0xE000E100)
+#define LINES_PEND (*(volatile uint32_t *)0xE000E200)
 
-#define RUN_FROM_CLOCK_WITH_INTERRUPT 7u
 #define LINE_0 1u
 #define TICKS_A_SECOND 100u
 
@@ -34,7 +30,7 @@ void chip_line_interrupt(void) { board_line(); }
 void chip_listen(void) {
     TIMER_RELOAD = CLOCK_HZ / TICKS_A_SECOND - 1;
     TIMER_COUNT = 0;
-    TIMER_CONTROL = RUN_FROM_CLOCK_WITH_INTERRUPT;
+    TIMER_CONTROL = RUN_WITH_INTERRUPT;
     LINES_ENABLE = LINE_0;
 }
 

@@ -25,18 +25,15 @@ static inline uint32_t count_between(uint32_t before, uint32_t after) { return a
 
 #define STACK_POINTER "mov %0, sp"
 
-/* The SysTick timer of a Cortex-M counts the processor's clock downwards in 24 bits. */
-#define TIMER(offset) (*(volatile uint32_t *)(0xE000E010u + (offset)))
-#define TIMER_BITS 0xFFFFFFu
-#define RUN_FROM_CLOCK 5u
+#include "timer.h"
 
 static inline void count_start(void) {
-    TIMER(4) = TIMER_BITS;
-    TIMER(8) = 0;
-    TIMER(0) = RUN_FROM_CLOCK;
+    TIMER_RELOAD = TIMER_BITS;
+    TIMER_COUNT = 0;
+    TIMER_CONTROL = RUN_FROM_CLOCK;
 }
 
-static inline uint32_t count_now(void) { return TIMER(8); }
+static inline uint32_t count_now(void) { return TIMER_COUNT; }
 static inline uint32_t count_between(uint32_t before, uint32_t after) { return (before - after) & TIMER_BITS; }
 
 #endif

@@ -74,17 +74,20 @@ generated_runs() {
     [ "$1" -lt 100000 ] || echo situations
 }
 
+# The hex digits of a state, as the header has its length.
+state_digits() { echo $((2 * $(sed -nE 's/^#define DOCK_STATE_BYTES ([0-9]+)u$/\1/p' "$here/include/dock.h"))); }
+
 # States on the way, saved. Before them bytes that are none, which are refused.
 saving_runs() {
     local seed
-    printf 'load %0108d\nsave\n' 0
+    printf 'load %0*d\nsave\n' "$(state_digits)" 0
     for seed in {11..18}; do printf '%s\n' begin "stream $seed $((seed * 97))" save; done
 }
 
 # onward_runs FILE: from each state that was saved in what FILE has, on.
 onward_runs() {
     local state
-    sed -nE 's/^  ([0-9A-F]{108})$/\1/p' "$1" | while read -r state; do
+    sed -nE "s/^  ([0-9A-F]{$(state_digits)})\$/\1/p" "$1" | while read -r state; do
         printf '%s\n' "load $state" "stream 5 3000" save "batches 6 1000" save registers
     done
 }
@@ -95,6 +98,14 @@ play_there() { there player "$2" "$1.out" <"$firmware/$1.in"; }
 
 # The number of words that a player's last line tells; 0 where it did not come to that.
 words_in() { awk 'END { print /^[0-9]+ words, / ? $1 : 0 }' "$1"; }
+
+# A run of no words would be the same everywhere.
+add_words() {
+    local played
+    played=$(words_in "$1")
+    [ "$played" -gt 0 ] || differs "no words were played: $1"
+    words=$((words + played))
+}
 
 check_programs() {
     there loop "$1" loop.out <"$here/c/firmware.in"
@@ -111,7 +122,7 @@ check_runs() {
         play_there "$name" "$1"
         same "$1: $name, $(words_in "$firmware/$name.out") words, as on x86-64" "$firmware/$1/$name.out" \
             "$firmware/$name.out"
-        words=$((words + $(words_in "$firmware/$1/$name.out")))
+        add_words "$firmware/$1/$name.out"
     done
     sed -nE '/^  [0-9A-F]{8}$/p' "$firmware/$1/trace.out" >"$firmware/$1/trace.records"
     same "$1: the trace program's stored lines" "$firmware/$1/trace.records" "$firmware/trace.expected"
@@ -125,12 +136,13 @@ check_interchange() {
     play_here onward-here
     same "$1: states that x86-64 saved go on there as here, and those of the board here as there" \
         "$firmware/$1/onward-there.out" "$firmware/onward-here.out"
-    words=$((words + $(words_in "$firmware/$1/onward-there.out")))
+    add_words "$firmware/$1/onward-there.out"
 }
 
 # emulate_all [WORDS [SEED]]
 emulate_all() {
     local processor name differences=0 words=0
+    [[ $# -le 2 && ${1:-0} =~ ^[0-9]+$ && ${2:-0} =~ ^[0-9]+$ ]] || usage
     trace_runs >"$firmware/trace.in"
     trace_expected >"$firmware/trace.expected"
     (start runs) >"$firmware/paper.in"
