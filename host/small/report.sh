@@ -218,7 +218,7 @@ $(tell_memory)
 The library keeps nothing but the state; the stack is free again after each call. The deepest stack is that of the
 deepest byte written. A frame may reserve bytes below it that nothing was written to, and what an interrupt takes comes
 below the frame; so room for a call is the sum of the frames under it: its own, and for step, batch and replay that of
-\`link::held::run\`, besides which only the copying of a few bytes is called.
+\`link::held::run\`, besides which only the clearing of a few bytes is called.
 
 $(tell_frames)
 

@@ -21,18 +21,19 @@ use Rattle.batch.proofs.Outcome.{the-type}
 not-done : {n : ℕ} {o : Outcome} → o ≡ Done n → T (among (tagOf the-type o) (1 ∷ 2 ∷ 3 ∷ [])) → ⊥
 not-done e h = rw e at h
 
--- It had room for a record a word, and counts its words.
-pub has-room : (s : Controller) (words bytes n : ℕ) → outcomeOf s words bytes ≡ Done n → (4 * words ≤ bytes) × (n ≡ words)
+-- Its state was fit, it had room for a record a word, and it counts its words.
+pub has-room : (s : Controller) (words bytes n : ℕ) → outcomeOf s words bytes ≡ Done n → (fits (s .machine) ≡ true) × (4 * words ≤ bytes) × (n ≡ words)
 unfolding outcomeOf
-has-room s words bytes n e = go (fits (s .machine)) (ltb 16384 words) (ltb bytes (4 * words)) refl e
+has-room s words bytes n e = go (fits (s .machine)) (ltb 16384 words) (ltb bytes (4 * words)) refl refl e
   where
     go :
-        (f m b : Bool) → ltb bytes (4 * words) ≡ b
-        → cond f (cond m TooManyWords (cond b TooFewBytes (Done words))) Unfit ≡ Done n → (4 * words ≤ bytes) × (n ≡ words)
-    go true true b t e = absurd (not-done e tt)
-    go true false true t e = absurd (not-done e tt)
-    go true false false t e = (ltb-false bytes (4 * words) t, cc)
-    go false m b t e = absurd (not-done e tt)
+        (f m b : Bool) → fits (s .machine) ≡ f → ltb bytes (4 * words) ≡ b
+        → cond f (cond m TooManyWords (cond b TooFewBytes (Done words))) Unfit ≡ Done n
+        → (fits (s .machine) ≡ true) × (4 * words ≤ bytes) × (n ≡ words)
+    go true true b p t e = absurd (not-done e tt)
+    go true false true p t e = absurd (not-done e tt)
+    go true false false p t e = (p, ltb-false bytes (4 * words) t, cc)
+    go false m b p t e = absurd (not-done e tt)
 
 pub as-it-came :
     (o : Outcome) → T (among (tagOf the-type o) (1 ∷ 2 ∷ 3 ∷ [])) → (s : Controller) (ws buffer : List ℕ)

@@ -4,12 +4,17 @@ use Prim.Native.Nat.{ℕ, _+_, _*_, _<_, _≤_}
 use native.Mathlib.Omega.{arith}
 use native.Mathlib.Numerals.{add-one}
 use mathlib.Core.Path.{_≡_, refl, ap, _∙_, sym}
+use mathlib.Core.Bool.{true}
 use mathlib.Core.List.{List, _++_, append-assoc}
 use lib.ListN.{length, getD, take, drop, length-append, length-drop}
 use lib.Seq.{take-at, drop-at, drop-drop, take-length, length-take-le}
-use Rattle.dock.specs.Step.{stepOf}
+use Rattle.machine.specs.Record.{fits}
+use Rattle.machine.specs.Outputs.{outputs}
+use Rattle.dock.specs.Step.{stepOf, wentOf}
 use Rattle.dock.specs.Run.{after, answersTo}
 use Rattle.dock.specs.declared.Controller.{Controller}
+use Rattle.dock.proofs.Goes.{goes-as-step}
+use Rattle.dock.proofs.Laws.{step-fit}
 use Rattle.dock.proofs.Run.{after-next, answers-next, answers-length}
 use Rattle.batch.specs.Record.{recordOf, recordsOf}
 use Rattle.batch.proofs.Records.{records-length, records-append}
@@ -59,6 +64,23 @@ module _ (s₀ : Controller) (ws b₀ : List ℕ) (i : ℕ) (s : Controller) (b 
 
       next : 4 * (i + 1) ≡ 4 * i + 4
       next = omega arith
+
+-- .. and the state is fit, with these outputs.
+pub record Going (s₀ : Controller) (ws : List ℕ) (b₀ : List ℕ) (i : ℕ) (s : Controller) (shown : ℕ) (b : List ℕ) : Type 0 where
+  pub taken : Taken s₀ ws b₀ i s b
+  pub fit : fits (s .machine) ≡ true
+  pub known : shown ≡ outputs (s .machine)
+
+pub none-gone : (s : Controller) (ws b : List ℕ) → fits (s .machine) ≡ true → Going s ws b 0 s (outputs (s .machine)) b
+none-gone s ws b f = record { taken = none-taken s ws b; fit = f; known = refl }
+
+pub goes-on :
+    (s₀ : Controller) (ws b₀ : List ℕ) (i : ℕ) (s : Controller) (shown : ℕ) (b : List ℕ) → Going s₀ ws b₀ i s shown b → i < length ws
+    → Going s₀ ws b₀ (i + 1) (wentOf s shown (getD ws i 0) .controller) (wentOf s shown (getD ws i 0) .outputs)
+    (take (4 * i) b ++ (recordOf (wentOf s shown (getD ws i 0) .answer) ++ drop 4 (drop (4 * i) b)))
+goes-on s₀ ws b₀ i s shown b h l =
+    rw (ap (λ o. wentOf s o (getD ws i 0)) (h .known) ∙ goes-as-step s (getD ws i 0) (h .fit))
+    (record { taken = one-more s₀ ws b₀ i s b (h .taken) l; fit = step-fit s (getD ws i 0) (h .fit); known = refl })
 
 -- All of the words have been taken.
 pub all-taken : (s₀ : Controller) (ws b₀ : List ℕ) (i : ℕ) (s : Controller) (b : List ℕ) → Taken s₀ ws b₀ i s b → length ws ≤ i

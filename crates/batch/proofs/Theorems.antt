@@ -61,7 +61,7 @@ alone-or-batched s ws buffer n e =
     rw e
     (record {
       state = refl;
-      count = has-room s (length ws) (length buffer) n e .1;
+      count = has-room s (length ws) (length buffer) n e .2;
       records = at-place;
       past = drop-at (recordsOf (answersTo s ws)) (drop (4 * length ws) buffer) (4 * length ws) all-length;
     })

@@ -1,10 +1,12 @@
 // Many events in one call, and the four-byte record of an answer (document 01, "Replies and refusal numbers").
 ghost use mathlib.Core.Path.{_≡_};
+ghost use mathlib.Core.Bool.{true};
 ghost use mathlib.Core.List.{_++_};
 ghost use lib.ListN.{length, drop};
-ghost use Prim.Native.Nat.{_*_, _≤_};
+ghost use Prim.Native.Nat.{_*_, _%_, _≤_};
+ghost use Rattle.machine.specs.Record.{fits};
 ghost use Rattle.dock.specs.Run.{after, answersTo};
-ghost use Rattle.batch.specs.Record.{recordNumber, recordOf, recordsOf};
+ghost use Rattle.batch.specs.Record.{fields, recordNumber, recordOf, recordsOf};
 ghost use Rattle.batch.specs.Batch.{batchOf, bufferAfter, outcomeOf};
 ghost use Rattle.batch.specs.Outcome.{outcomeRefusal, outcomeCount};
 use dock::Answer;
@@ -32,15 +34,24 @@ pub struct Batched {
     pub outcome: Outcome,
 }
 
-// The record as one number: refusal 4 bits, reply 3, byte 8, outputs 9, eight zero bits.
+// Four fields as one number: refusal 4 bits, reply 3, byte 8, outputs 9, eight zero bits.
+fn fields(refusal: u8, reply: u8, byte: u8, outputs: u16) -> u32
+    ensures { λ r. ⌜ r ≡ fields (refusal % 16) (reply % 8) byte (outputs % 512) ⌝ }
+{
+    let high = (refusal % 16) as u32 * 8 + (reply % 8) as u32;
+    ((high * 256 + byte as u32) * 512 + (outputs % 512) as u32) * 256
+}
+
+// The record as one number.
 fn record_number(answer: Answer) -> u32
     ensures { λ r. ⌜ r ≡ recordNumber answer ⌝ }
 {
-    let refusal = (answer.refusal() % 16) as u32;
-    let reply = (answer.reply() % 8) as u32;
-    let byte = answer.byte() as u32;
-    let outputs = (answer.outputs() % 512) as u32;
-    (((refusal * 8 + reply) * 256 + byte) * 512 + outputs) * 256
+    match answer {
+        Answer::Done(reply, outputs) => fields(0, reply.number(), reply.byte(), outputs),
+        Answer::Unfit => fields(1, 0, 0, 0),
+        Answer::StrayBit(outputs) => fields(2, 0, 0, outputs),
+        Answer::NotStarted => fields(3, 0, 0, 0),
+    }
 }
 
 // The record of an answer, most significant byte first.
@@ -84,20 +95,23 @@ fn verdict(controller: Controller, words: &[u16], records: &[u8]) -> Outcome
     Outcome::Done(words.len())
 }
 
-// The words one after the other, each with its record at its own place.
+// The words one after the other, each with its record at its own place. Each leaves the state fit, so it isn't asked again.
 fn run(controller: Controller, words: &[u16], records: &mut [u8]) -> Controller
+    requires { ⌜ fits (controller .machine) ≡ true ⌝ }
     requires { ⌜ 4 * length (now words) ≤ length (now records) ⌝ }
     ensures { λ r. ⌜ r ≡ after controller (now (words .entry)) ⌝ }
     ensures { λ _. ⌜ now (records .exit) ≡ recordsOf (answersTo controller (now (words .entry))) ++ drop (4 * length (now (words .entry))) (now (records .entry)) ⌝ }
 {
     let mut state = controller;
+    let mut shown = controller.machine.outputs();
     let mut i = 0;
     while i < words.len() {
-        let stepped = state.step(words[i]);
-        let answer = stepped.answer;
+        let went = state.goes(shown, words[i]);
+        let answer = went.answer;
         let at = RECORD * i;
         write_record(answer, &mut records[at..at + RECORD]);
-        state = stepped.controller;
+        state = went.controller;
+        shown = went.outputs;
         i += 1;
     }
     state

@@ -7,13 +7,16 @@ use Rattle.bay.specs.declared.Bay.{Bay}
 use Rattle.bay.specs.declared.Control.{Control}
 use Rattle.bay.specs.declared.Setting.{Setting}
 use Rattle.bay.specs.declared.Input.{Input}
+use Rattle.bay.specs.declared.Inputs.{Inputs}
 use Rattle.bay.proofs.Bay.empty.Reads as empty-reads
 use Rattle.bay.proofs.Bay.reset.Reads as reset-reads
 use Rattle.bay.proofs.Bay.fit.Reads as fit-reads
 use Rattle.bay.proofs.Bay.sampled.Reads as sampled-reads
 use Rattle.bay.proofs.Bay.present.Reads as present-reads
 use Rattle.bay.proofs.Bay.«in_use».Reads as in-use-reads
-use Rattle.bay.proofs.Bay.ticked.Reads as ticked-reads
+use Rattle.bay.proofs.Bay.inputs.Reads as inputs-reads
+use Rattle.bay.proofs.Bay.moved.Reads as moved-reads
+use Rattle.bay.proofs.Bay.rests.Reads as rests-reads
 use Rattle.bay.proofs.Bay.bstr.Reads as bstr-reads
 use Rattle.bay.proofs.Bay.bcer.Reads as bcer-reads
 use Rattle.bay.proofs.Bay.«with_bstr».Reads as with-bstr-reads
@@ -42,8 +45,14 @@ present-determined b r s p q = p ∙ sym q
 pub in-use-determined : (b : Bay) (r s : Bool) → in-use-reads.Post tt (b, tt) r (b, tt) → in-use-reads.Post tt (b, tt) s (b, tt) → r ≡ s
 in-use-determined b r s p q = p ∙ sym q
 
-pub ticked-determined : (b : Bay) (g : Setting) (r s : Bay) → ticked-reads.Post tt (b, (g, tt)) r (b, (g, tt)) → ticked-reads.Post tt (b, (g, tt)) s (b, (g, tt)) → r ≡ s
-ticked-determined b g r s p q = p ∙ sym q
+pub inputs-determined : (b : Bay) (r s : Inputs) → inputs-reads.Post tt (b, tt) r (b, tt) → inputs-reads.Post tt (b, tt) s (b, tt) → r ≡ s
+inputs-determined b r s p q = p ∙ sym q
+
+pub moved-determined : (b : Bay) (ticks : ℕ) (i : Inputs) (r s : Bay) → moved-reads.Post tt (b, (ticks, (i, tt))) r (b, (ticks, (i, tt))) → moved-reads.Post tt (b, (ticks, (i, tt))) s (b, (ticks, (i, tt))) → r ≡ s
+moved-determined b ticks i r s p q = p ∙ sym q
+
+pub rests-determined : (b : Bay) (r s : Bool) → rests-reads.Post tt (b, tt) r (b, tt) → rests-reads.Post tt (b, tt) s (b, tt) → r ≡ s
+rests-determined b r s p q = p .0 ∙ sym (q .0)
 
 pub bstr-determined : (b : Bay) (r s : ℕ) → bstr-reads.Post tt (b, tt) r (b, tt) → bstr-reads.Post tt (b, tt) s (b, tt) → r ≡ s
 bstr-determined b r s p q = p ∙ sym q
@@ -66,8 +75,8 @@ outputs-determined b mode lit r s p q = p ∙ sym q
 pub interrupt-determined : (b : Bay) (r s : Bool) → interrupt-reads.Post tt (b, tt) r (b, tt) → interrupt-reads.Post tt (b, tt) s (b, tt) → r ≡ s
 interrupt-determined b r s p q = p ∙ sym q
 
-pub debounced-determined : (length : ℕ) (same level accepted : Bool) (n : ℕ) (r s : Input) → debounced-reads.Post tt (length, (same, (level, (accepted, (n, tt))))) r (length, (same, (level, (accepted, (n, tt))))) → debounced-reads.Post tt (length, (same, (level, (accepted, (n, tt))))) s (length, (same, (level, (accepted, (n, tt))))) → r ≡ s
-debounced-determined length same level accepted n r s p q = p ∙ sym q
+pub debounced-determined : (length : ℕ) (level accepted : Bool) (n : ℕ) (r s : Input) → debounced-reads.Post tt (length, (level, (accepted, (n, tt)))) r (length, (level, (accepted, (n, tt)))) → debounced-reads.Post tt (length, (level, (accepted, (n, tt)))) s (length, (level, (accepted, (n, tt)))) → r ≡ s
+debounced-determined length level accepted n r s p q = p ∙ sym q
 
 pub ticks-for-determined : (i r s : ℕ) → ticks-for-reads.Post tt (i, tt) r (i, tt) → ticks-for-reads.Post tt (i, tt) s (i, tt) → r ≡ s
 ticks-for-determined i r s p q = p ∙ sym q

@@ -1,7 +1,7 @@
 -- What a TICK comes to: where a device leaves, where none does, and where every level is the accepted one. Assumes nothing.
 use Prim.Native.Nat.{ℕ, _-_}
 use mathlib.Core.Path.{_≡_, refl, ap, _∙_}
-use mathlib.Core.Bool.{Bool, true, false, not, cond, _&&_, _||_, Bool·beq, and-true, and-false, or-false, and-not-self, not-and-self, and-eq-true-iff}
+use mathlib.Core.Bool.{Bool, true, false, not, cond, _&&_, _||_, and-true, and-false, or-false, and-not-self, not-and-self, and-eq-true-iff}
 use mathlib.Core.List.{List, [], _∷_}
 use lib.Dec.{eqb}
 use lib.ListN.{length, getD}
@@ -9,7 +9,7 @@ use native.Mathlib.Omega.{arith}
 use borrow.Author.Tests.{not-true, eqb-true}
 use Rattle.bay.specs.Record.{N1394, NUSB, NREMREQ, ticksFor, level, acceptedLevel, count, present, EMPTY, REMOVAL-ALLOWED, withInputs, withStatus}
 use Rattle.bay.specs.Debounce.{differs, settles, debounce}
-use Rattle.bay.specs.Moves.{input, presentAfter, leaves, arrives, changes, pressed, heeded, waitAfter, inserts, stateAfter, controlAfter, requestedAfter, changedAfter, movedBay, tickedBay}
+use Rattle.bay.specs.Moves.{input, presentAfter, leaves, arrives, changes, pressed, heeded, waitAfter, inserts, stateAfter, controlAfter, requestedAfter, changedAfter, movedBay, tickedBay, same, rests}
 use Rattle.bay.specs.Table.{pressOver}
 use Rattle.bay.specs.declared.Bay.{Bay}
 use Rattle.bay.specs.declared.Control.{Control}
@@ -43,9 +43,6 @@ module _ (ticks : ℕ) (b : Bay) (n1394 nusb nremreq : Input) where
 
 -- ---- every level is the accepted one
 
-abbrev same : Bay → ℕ → Bool
-same b i = Bool·beq (level b i) (acceptedLevel b i)
-
 three : {A : Type 0} (d : A) (xs : List A) → length xs ≡ 3 → getD xs 0 d ∷ getD xs 1 d ∷ getD xs 2 d ∷ [] ≡ xs
 three d [] h = absurd (omega arith)
 three d (x ∷ []) h = absurd (omega arith)
@@ -53,15 +50,15 @@ three d (x ∷ y ∷ []) h = absurd (omega arith)
 three d (x ∷ y ∷ z ∷ []) h = refl
 three d (x ∷ y ∷ z ∷ w ∷ xs) h = absurd (omega arith)
 
--- Only the pulse falls, where no wait runs.
-pub steady :
-    (s : Setting) (b : Bay) → length (b .accepted) ≡ 3 → length (b .counts) ≡ 3
-    → (same b N1394 && same b NUSB && same b NREMREQ && eqb (b .wait) 0) ≡ true
+-- Where no wait and no pulse runs either, the bay is as it was ..
+pub rested :
+    (s : Setting) (b : Bay) → rests b ≡ true
     → tickedBay s b
-    ≡ withStatus (b .state) (b .«remreq_sts») (b .devstschg) (b .control) (b .pulse - 1) (b .wait) b
-unfolding tickedBay present stateAfter waitAfter inserts
-steady s b la lc e =
-    let w = and-eq-true-iff (same b N1394 && same b NUSB && same b NREMREQ) (eqb (b .wait) 0) .0 e in
+    ≡ withInputs (b .levels) (acceptedLevel b N1394 ∷ acceptedLevel b NUSB ∷ acceptedLevel b NREMREQ ∷ []) (count b N1394 ∷ count b NUSB ∷ count b NREMREQ ∷ []) (b .«n_sl») b
+unfolding tickedBay present stateAfter waitAfter inserts rests
+rested s b e =
+    let f = and-eq-true-iff (same b N1394 && same b NUSB && same b NREMREQ && eqb (b .wait) 0) (eqb (b .pulse) 0) .0 e in
+    let w = and-eq-true-iff (same b N1394 && same b NUSB && same b NREMREQ) (eqb (b .wait) 0) .0 (f .0) in
     let p = and-eq-true-iff (same b N1394 && same b NUSB) (same b NREMREQ) .0 (w .0) in
     let q = and-eq-true-iff (same b N1394) (same b NUSB) .0 (p .0) in
     rw (
@@ -70,11 +67,14 @@ steady s b la lc e =
       steady-input (ticksFor NREMREQ) (level b NREMREQ) (acceptedLevel b NREMREQ) (count b NREMREQ) (p .1),
       stayed (s .«wait_ticks») b (counting (acceptedLevel b N1394) (count b N1394)) (counting (acceptedLevel b NUSB) (count b NUSB)) (counting (acceptedLevel b NREMREQ) (count b NREMREQ)) (and-not-self (present b)),
       not-and-self,
-      three false (b .accepted) la,
-      three 0 (b .counts) lc,
       eqb-true (b .wait) 0 (w .1),
+      eqb-true (b .pulse) 0 (f .1),
     )
     (simp or-false)
+
+-- .. to the last field, where it has three accepted levels and three counts.
+pub at-rest : (s : Setting) (b : Bay) → length (b .accepted) ≡ 3 → length (b .counts) ≡ 3 → rests b ≡ true → tickedBay s b ≡ b
+at-rest s b la lc e = rw (rested s b e, three false (b .accepted) la, three 0 (b .counts) lc)
 
 -- ---- what a TICK brings, by the accepted levels before and after it
 

@@ -1,6 +1,6 @@
 -- What a TICK makes of a bay (document 01, "Bay moves"; document 02, request 6): it makes at most one move, presence first.
 use Prim.Native.Nat.{ℕ, _-_}
-use mathlib.Core.Bool.{Bool, not, cond, _&&_, _||_}
+use mathlib.Core.Bool.{Bool, not, cond, _&&_, _||_, Bool·beq}
 use mathlib.Core.List.{[], _∷_}
 use lib.Dec.{eqb}
 use Rattle.bay.specs.Record.{
@@ -25,11 +25,16 @@ use Rattle.bay.specs.Debounce.{debounce}
 use Rattle.bay.specs.declared.Bay.{Bay}
 use Rattle.bay.specs.declared.Control.{Control}
 use Rattle.bay.specs.declared.Input.{Input}
+use Rattle.bay.specs.declared.Inputs.{Inputs}
 use Rattle.bay.specs.declared.Setting.{Setting}
 
 -- Input i after this TICK: its accepted level, its count, and whether a level was accepted.
 abbrev pub input : Bay → ℕ → Input
 input b i = debounce (ticksFor i) (level b i) (acceptedLevel b i) (count b i)
+
+-- Its three inputs then.
+abbrev pub inputsOf : Bay → Inputs
+inputsOf b = record { n1394 = input b N1394; nusb = input b NUSB; nremreq = input b NREMREQ }
 
 -- The rules below are over a bay and its inputs 1394 and USB, or removal request, after this TICK.
 abbrev pub presentAfter : Input → Input → Bool
@@ -126,3 +131,13 @@ movedBay ticks b n1394 nusb nremreq =
 
 unfoldable pub tickedBay : Setting → Bay → Bay
 tickedBay s b = movedBay (s .«wait_ticks») b (input b N1394) (input b NUSB) (input b NREMREQ)
+
+-- ---- a TICK that finds nothing to do
+
+-- The level of input i is the accepted one.
+abbrev pub same : Bay → ℕ → Bool
+same b i = Bool·beq (level b i) (acceptedLevel b i)
+
+-- All three are, no device seats and no pulse runs.
+unfoldable pub rests : Bay → Bool
+rests b = same b N1394 && same b NUSB && same b NREMREQ && eqb (b .wait) 0 && eqb (b .pulse) 0

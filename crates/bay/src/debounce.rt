@@ -1,6 +1,5 @@
 // Debounce (document 01, "Bay moves"): what PINS and a TICK make of an input.
 ghost use mathlib.Core.Path.{_≡_};
-ghost use mathlib.Core.Bool.{Bool·beq};
 ghost use Prim.Native.Nat.{_<_};
 ghost use Rattle.bay.specs.Record.{ticksFor};
 ghost use Rattle.bay.specs.Debounce.{debounce, restart, sampledBay};
@@ -19,14 +18,12 @@ pub(crate) fn ticks_for(input: usize) -> u8
     }
 }
 
-// A TICK: a count whose level differs rises by one; at `length` the level is accepted and the count is 0. `same`: it doesn't differ, as the
-// caller has found already.
-pub(crate) fn debounced(length: u8, same: bool, level: bool, accepted: bool, count: u8) -> Input
+// A TICK: a count whose level differs rises by one; at `length` the level is accepted and the count is 0.
+pub(crate) fn debounced(length: u8, level: bool, accepted: bool, count: u8) -> Input
     requires { ⌜ 0 < length ⌝ }
-    requires { ⌜ same ≡ Bool·beq level accepted ⌝ }
     ensures { λ r. ⌜ r ≡ debounce length level accepted count ⌝ }
 {
-    if same {
+    if level == accepted {
         return Input {
             accepted,
             count,
@@ -56,20 +53,30 @@ fn restarted(level: bool, accepted: bool, count: u8) -> u8
 
 impl Bay {
     // PINS, with the bay's four levels, nSL lowest.
-    pub fn sampled(mut self, levels: u8) -> Bay
+    pub fn sampled(self, levels: u8) -> Bay
         ensures { λ r. ⌜ r ≡ sampledBay levels self ⌝ }
     {
         let accepted = self.accepted;
         let counts = self.counts;
+        let control = self.control;
         let n1394 = has(levels, 8);
         let nusb = has(levels, 4);
         let nremreq = has(levels, 2);
-        let c1394 = restarted(n1394, accepted[Bay::N1394], counts[Bay::N1394]);
-        let cusb = restarted(nusb, accepted[Bay::NUSB], counts[Bay::NUSB]);
-        let cremreq = restarted(nremreq, accepted[Bay::NREMREQ], counts[Bay::NREMREQ]);
-        self.levels = [n1394, nusb, nremreq];
-        self.counts = [c1394, cusb, cremreq];
-        self.n_sl = has(levels, 1);
-        self
+        Bay {
+            levels: [n1394, nusb, nremreq],
+            counts: [
+                restarted(n1394, accepted[Bay::N1394], counts[Bay::N1394]),
+                restarted(nusb, accepted[Bay::NUSB], counts[Bay::NUSB]),
+                restarted(nremreq, accepted[Bay::NREMREQ], counts[Bay::NREMREQ]),
+            ],
+            accepted,
+            remreq_sts: self.remreq_sts,
+            devstschg: self.devstschg,
+            state: self.state,
+            control,
+            pulse: self.pulse,
+            wait: self.wait,
+            n_sl: has(levels, 1),
+        }
     }
 }

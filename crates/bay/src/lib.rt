@@ -6,25 +6,26 @@ mod outputs;
 mod record;
 mod registers;
 
-// In each array the places are n1394, nUSB and nREMREQ; a level of false is 0, asserted.
+// In each array the places are n1394, nUSB and nREMREQ; a level of false is 0, asserted. The order of the fields is one in
+// which the compiler copies them one by one (docs/DECISIONS.md).
 pub struct Bay {
     // As last sampled.
     pub levels: [bool; Bay::INPUTS],
-    // As debounced.
-    pub accepted: [bool; Bay::INPUTS],
     // For how many ticks a level has differed from the accepted one.
     pub counts: [u8; Bay::INPUTS],
-    // nSL as last sampled: it is not debounced.
-    pub n_sl: bool,
-    pub state: u8,
+    // As debounced.
+    pub accepted: [bool; Bay::INPUTS],
     pub remreq_sts: bool,
     pub devstschg: bool,
+    pub state: u8,
     // BCER.
     pub control: Control,
     // For how many ticks more the lock pin is held low.
     pub pulse: u8,
     // For how many ticks more a device seats before the bay is Inserted.
     pub wait: u8,
+    // nSL as last sampled: it is not debounced.
+    pub n_sl: bool,
 }
 
 impl Bay {
@@ -75,9 +76,16 @@ pub struct Setting {
 }
 
 // One input after a TICK.
-struct Input {
-    accepted: bool,
-    count: u8,
+pub struct Input {
+    pub accepted: bool,
+    pub count: u8,
     // A level was accepted in this TICK.
-    settled: bool,
+    pub settled: bool,
+}
+
+// A bay's inputs after a TICK.
+pub struct Inputs {
+    pub n1394: Input,
+    pub nusb: Input,
+    pub nremreq: Input,
 }

@@ -3,11 +3,11 @@ ghost use mathlib.Core.Path.{_≡_};
 ghost use mathlib.Core.Bool.{true, false};
 ghost use Prim.Native.Nat.{_-_};
 ghost use Rattle.bay.specs.Record.{present as Record·present};
-ghost use Rattle.bay.specs.Moves.{tickedBay, movedBay, begun, waitAfter, inserts, stateAfter, controlAfter, inUse};
+ghost use Rattle.bay.specs.Moves.{inputsOf, leaves, movedBay, tickedBay, rests, begun, waitAfter, inserts, stateAfter, controlAfter, inUse};
+ghost use Rattle.bay.specs.declared.Setting.{Setting};
 use crate::Bay;
 use crate::Control;
-use crate::Input;
-use crate::Setting;
+use crate::Inputs;
 use crate::debounce::debounced;
 use crate::debounce::ticks_for;
 
@@ -62,71 +62,103 @@ impl Bay {
         self.state
     }
 
-    // What the inputs of a TICK make of the bay. A press is heeded only over a device, so not as one leaves.
-    fn moved(mut self, ticks: u8, n1394: Input, nusb: Input, nremreq: Input) -> Bay
-        ensures { λ r. ⌜ r ≡ movedBay ticks self n1394 nusb nremreq ⌝ }
-    {
-        let before = self.present();
-        let after = !n1394.accepted | !nusb.accepted;
-        let changed = n1394.settled | nusb.settled;
-        let heeded = nremreq.settled & !nremreq.accepted & after;
-        self.accepted = [n1394.accepted, nusb.accepted, nremreq.accepted];
-        self.counts = [n1394.count, nusb.count, nremreq.count];
-        self.pulse = fallen(self.pulse);
-        if before & !after {
-            let quiet = (self.state == Bay::REMOVAL_ALLOWED) & !self.control.remevtwak_en;
-            self.state = Bay::EMPTY;
-            self.devstschg = self.devstschg | (changed & !quiet);
-            self.control = self.control.released();
-            self.wait = 0;
-            return self;
-        }
-        let arrives = !before & after;
-        let wait = self.wait_after(ticks, arrives);
-        let state = self.state_after(ticks, arrives, heeded);
-        self.wait = wait;
-        self.state = state;
-        self.remreq_sts = self.remreq_sts | heeded;
-        self.devstschg = self.devstschg | changed;
-        self
-    }
-
-    // A TICK. Where every level is the accepted one and no device seats, as in most ticks, only the pulse falls.
-    pub fn ticked(mut self, setting: Setting) -> Bay
-        ensures { λ r. ⌜ r ≡ tickedBay setting self ⌝ }
+    // The inputs after a TICK.
+    pub fn inputs(self) -> Inputs
+        ensures { λ r. ⌜ r ≡ inputsOf self ⌝ }
     {
         let levels = self.levels;
         let accepted = self.accepted;
         let counts = self.counts;
-        let same_1394 = levels[Bay::N1394] == accepted[Bay::N1394];
-        let same_usb = levels[Bay::NUSB] == accepted[Bay::NUSB];
-        let same_remreq = levels[Bay::NREMREQ] == accepted[Bay::NREMREQ];
-        if same_1394 & same_usb & same_remreq & (self.wait == 0) {
-            self.pulse = fallen(self.pulse);
-            return self;
+        Inputs {
+            n1394: debounced(
+                ticks_for(Bay::N1394),
+                levels[Bay::N1394],
+                accepted[Bay::N1394],
+                counts[Bay::N1394],
+            ),
+            nusb: debounced(
+                ticks_for(Bay::NUSB),
+                levels[Bay::NUSB],
+                accepted[Bay::NUSB],
+                counts[Bay::NUSB],
+            ),
+            nremreq: debounced(
+                ticks_for(Bay::NREMREQ),
+                levels[Bay::NREMREQ],
+                accepted[Bay::NREMREQ],
+                counts[Bay::NREMREQ],
+            ),
         }
-        let n1394 = debounced(
-            ticks_for(Bay::N1394),
-            same_1394,
-            levels[Bay::N1394],
-            accepted[Bay::N1394],
-            counts[Bay::N1394],
-        );
-        let nusb = debounced(
-            ticks_for(Bay::NUSB),
-            same_usb,
-            levels[Bay::NUSB],
-            accepted[Bay::NUSB],
-            counts[Bay::NUSB],
-        );
-        let nremreq = debounced(
-            ticks_for(Bay::NREMREQ),
-            same_remreq,
-            levels[Bay::NREMREQ],
-            accepted[Bay::NREMREQ],
-            counts[Bay::NREMREQ],
-        );
-        self.moved(setting.wait_ticks, n1394, nusb, nremreq)
+    }
+
+    // A device leaves in a TICK with these inputs.
+    fn left(self, pulse: u8, inputs: Inputs) -> Bay
+        requires { ⌜ pulse ≡ self .pulse - 1 ⌝ }
+        requires { ⌜ leaves self (inputs .n1394) (inputs .nusb) ≡ true ⌝ }
+        ensures { λ r. ⌜ r ≡ movedBay 0 self (inputs .n1394) (inputs .nusb) (inputs .nremreq) ⌝ }
+    {
+        let n1394 = inputs.n1394;
+        let nusb = inputs.nusb;
+        let nremreq = inputs.nremreq;
+        let levels = self.levels;
+        let quiet = (self.state == Bay::REMOVAL_ALLOWED) & !self.control.remevtwak_en;
+        Bay {
+            levels,
+            counts: [n1394.count, nusb.count, nremreq.count],
+            accepted: [n1394.accepted, nusb.accepted, nremreq.accepted],
+            remreq_sts: self.remreq_sts,
+            devstschg: self.devstschg | ((n1394.settled | nusb.settled) & !quiet),
+            state: Bay::EMPTY,
+            control: self.control.released(),
+            pulse,
+            wait: 0,
+            n_sl: self.n_sl,
+        }
+    }
+
+    // What a TICK makes of the bay, with its inputs. A press is heeded only over a device, so not as one leaves.
+    pub fn moved(self, ticks: u8, inputs: Inputs) -> Bay
+        ensures { λ r. ⌜ r ≡ movedBay ticks self (inputs .n1394) (inputs .nusb) (inputs .nremreq) ⌝ }
+    {
+        let n1394 = inputs.n1394;
+        let nusb = inputs.nusb;
+        let nremreq = inputs.nremreq;
+        let before = self.present();
+        let after = !n1394.accepted | !nusb.accepted;
+        let pulse = fallen(self.pulse);
+        if before & !after {
+            return self.left(pulse, inputs);
+        }
+        let levels = self.levels;
+        let control = self.control;
+        let arrives = !before & after;
+        let heeded = nremreq.settled & !nremreq.accepted & after;
+        Bay {
+            levels,
+            counts: [n1394.count, nusb.count, nremreq.count],
+            accepted: [n1394.accepted, nusb.accepted, nremreq.accepted],
+            remreq_sts: self.remreq_sts | heeded,
+            devstschg: self.devstschg | (n1394.settled | nusb.settled),
+            state: self.state_after(ticks, arrives, heeded),
+            control,
+            pulse,
+            wait: self.wait_after(ticks, arrives),
+            n_sl: self.n_sl,
+        }
+    }
+
+    // A TICK finds nothing to do, and leaves the bay as it is: every level is the accepted one, no device seats and no pulse runs.
+    pub fn rests(self) -> bool
+        ensures { λ r. ⌜ r ≡ rests self ⌝ }
+        ensures { λ r. ⌜ (r ≡ true → (s : Setting) → tickedBay s self ≡ self) ⌝ }
+    {
+        let levels = self.levels;
+        let accepted = self.accepted;
+        (levels[Bay::N1394] == accepted[Bay::N1394])
+            & (levels[Bay::NUSB] == accepted[Bay::NUSB])
+            & (levels[Bay::NREMREQ] == accepted[Bay::NREMREQ])
+            & (self.wait == 0)
+            & (self.pulse == 0)
     }
 }
 

@@ -35,12 +35,25 @@ impl Bay {
     }
 
     // A write to BSTR: 1 clears REMREQ_STS or DEVSTSCHG.
-    pub fn with_bstr(mut self, value: u8) -> Bay
+    pub fn with_bstr(self, value: u8) -> Bay
         ensures { λ r. ⌜ r ≡ bstrWritten value self ⌝ }
     {
-        self.remreq_sts = self.remreq_sts & !has(value, 8);
-        self.devstschg = self.devstschg & !has(value, 4);
-        self
+        let levels = self.levels;
+        let counts = self.counts;
+        let accepted = self.accepted;
+        let control = self.control;
+        Bay {
+            levels,
+            counts,
+            accepted,
+            remreq_sts: self.remreq_sts & !has(value, 8),
+            devstschg: self.devstschg & !has(value, 4),
+            state: self.state,
+            control,
+            pulse: self.pulse,
+            wait: self.wait,
+            n_sl: self.n_sl,
+        }
     }
 
     // The write brings DEVSTSCHG_EN from 0 to 1 in Empty, with a device.
@@ -92,19 +105,25 @@ impl Bay {
     }
 
     // What a driver's write does.
-    pub fn controlled(mut self, c: Control, setting: Setting) -> Bay
+    pub fn controlled(self, c: Control, setting: Setting) -> Bay
         ensures { λ r. ⌜ r ≡ controlledBay c setting self ⌝ }
     {
+        let levels = self.levels;
+        let counts = self.counts;
+        let accepted = self.accepted;
         let present = self.present();
-        let state = self.state_written(c, present, setting.wait_ticks);
-        let control = self.control.written(c, present);
-        let pulse = self.pulse_written(c, setting.lock_mode, setting.pulse_ticks);
-        let wait = self.wait_written(c, present, setting.wait_ticks);
-        self.state = state;
-        self.control = control;
-        self.pulse = pulse;
-        self.wait = wait;
-        self
+        Bay {
+            levels,
+            counts,
+            accepted,
+            remreq_sts: self.remreq_sts,
+            devstschg: self.devstschg,
+            state: self.state_written(c, present, setting.wait_ticks),
+            control: self.control.written(c, present),
+            pulse: self.pulse_written(c, setting.lock_mode, setting.pulse_ticks),
+            wait: self.wait_written(c, present, setting.wait_ticks),
+            n_sl: self.n_sl,
+        }
     }
 }
 

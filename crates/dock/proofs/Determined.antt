@@ -6,9 +6,11 @@ use Rattle.dock.specs.declared.Controller.{Controller}
 use Rattle.dock.specs.declared.Answer.{Answer}
 use Rattle.dock.specs.declared.Stepped.{Stepped}
 use Rattle.dock.specs.declared.Told.{Told}
+use Rattle.dock.specs.declared.Went.{Went}
 use Rattle.dock.proofs.Controller.fresh.Reads as fresh-reads
 use Rattle.dock.proofs.Controller.fit.Reads as fit-reads
 use Rattle.dock.proofs.Controller.step.Reads as step-reads
+use Rattle.dock.proofs.Controller.goes.Reads as goes-reads
 use Rattle.dock.proofs.Controller.reading.Reads as reading-reads
 use Rattle.dock.proofs.Controller.outputs.Reads as outputs-reads
 use Rattle.dock.proofs.Answer.refusal.Reads as refusal-reads
@@ -27,6 +29,10 @@ fit-determined x r s p q = p ∙ sym q
 pub step-determined :
     (x : Controller) (w : ℕ) (r s : Stepped) → step-reads.Post tt (x, (w, tt)) r (x, (w, tt)) → step-reads.Post tt (x, (w, tt)) s (x, (w, tt)) → r ≡ s
 step-determined x w r s p q = p ∙ sym q
+
+pub goes-determined :
+    (x : Controller) (o w : ℕ) (r s : Went) → goes-reads.Post tt (x, (o, (w, tt))) r (x, (o, (w, tt))) → goes-reads.Post tt (x, (o, (w, tt))) s (x, (o, (w, tt))) → r ≡ s
+goes-determined x o w r s p q = p ∙ sym q
 
 pub reading-determined :
     (x : Controller) (a : ℕ) (r s : Told) → reading-reads.Post tt (x, (a, tt)) r (x, (a, tt)) → reading-reads.Post tt (x, (a, tt)) s (x, (a, tt)) → r ≡ s

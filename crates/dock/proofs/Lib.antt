@@ -8,6 +8,7 @@ pub mod Letr
 pub mod Wait
 pub mod Inputs
 pub mod Replies
+pub mod Goes
 pub mod Run
 pub mod Determined
 pub mod Examples

@@ -1,6 +1,7 @@
 -- What each event comes to in a controller that is fit and may take it (document 01): how far the command has come then, what the
 -- machine does, and the reply.
 use Prim.Native.Nat.{ℕ}
+use mathlib.Core.Bool.{Bool, true}
 use Rattle.event.specs.declared.Event.{Event}
 use Rattle.event.specs.declared.Event.the-variants.{Start, Stop, Byte, Take, Pins, Tick, Reset, Timeout}
 use Rattle.bus.specs.Progress.{started, heard}
@@ -11,7 +12,7 @@ use Rattle.bus.specs.declared.Heard.the-variants.{On, Read, End}
 use Rattle.bus.specs.declared.Reply.{Reply}
 use Rattle.bus.specs.declared.Reply.the-variants.{Nothing, Ack, NoAck, Driven, NotDriven}
 use Rattle.machine.specs.Registers.{reading}
-use Rattle.machine.specs.Acts.{does}
+use Rattle.machine.specs.Acts.{does, keeps}
 use Rattle.machine.specs.declared.Machine.{Machine}
 use Rattle.machine.specs.declared.Act.{Act}
 use Rattle.machine.specs.declared.Act.the-variants as act
@@ -90,3 +91,8 @@ taken t m = record { machine = done (t .deed) m; progress = t .progress }
 
 unfoldable pub next : Controller → Event → Controller
 next s e = taken (turnOf s e) (s .machine)
+
+-- It leaves the outputs as they were: no deed, or one of the acts that do.
+abbrev pub kept : Deed → Machine → Bool
+kept NoDeed m = true
+kept (Does a) m = keeps a m

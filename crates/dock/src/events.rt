@@ -1,8 +1,9 @@
 // What each event comes to in a controller that is fit and may take it (document 01): the bus decides, the machine does.
 ghost use mathlib.Core.Path.{_≡_};
-ghost use Rattle.dock.specs.Events.{ended, startAt, stopAt, byteAt, takeAt, turnOf, taken};
+ghost use Rattle.dock.specs.Events.{ended, startAt, stopAt, byteAt, takeAt, turnOf, taken, kept};
 use crate::Controller;
 use crate::Deed;
+use crate::Taken;
 use crate::Turn;
 use bus::Heard;
 use bus::Progress;
@@ -53,11 +54,15 @@ fn byte(machine: Machine, progress: Progress, byte: u8) -> Turn
             deed: Deed::NoDeed,
             reply: Reply::Ack,
         },
-        Heard::Read(register) => Turn {
-            progress: Progress::Reading(machine.reading(register)),
-            deed: Deed::Does(Act::Read(register)),
-            reply: Reply::Ack,
-        },
+        Heard::Read(register) => {
+            // A copy of its own, so that no other BYTE is charged with one.
+            let now = machine;
+            Turn {
+                progress: Progress::Reading(now.reading(register)),
+                deed: Deed::Does(Act::Read(register)),
+                reply: Reply::Ack,
+            }
+        }
         Heard::End => ended(Reply::NoAck),
     }
 }
@@ -117,17 +122,25 @@ impl Controller {
 
 impl Turn {
     // The controller that it leaves.
-    pub(crate) fn taken(self, machine: Machine) -> Controller
-        ensures { λ r. ⌜ r ≡ taken self machine ⌝ }
+    pub(crate) fn taken(self, machine: Machine) -> Taken
+        ensures { λ r. ⌜ r ≡ record { controller = taken self machine; keeps = kept (self .deed) machine } ⌝ }
     {
         let deed = self.deed;
         let progress = self.progress;
         let Deed::Does(act) = deed else {
-            return Controller { machine, progress };
+            return Taken {
+                controller: Controller { machine, progress },
+                keeps: true,
+            };
         };
-        Controller {
-            machine: machine.does(act),
-            progress,
+        let acted = machine.does(act);
+        let after = acted.machine;
+        Taken {
+            controller: Controller {
+                machine: after,
+                progress,
+            },
+            keeps: acted.keeps,
         }
     }
 }

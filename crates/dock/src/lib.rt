@@ -33,12 +33,27 @@ pub struct Stepped {
     pub answer: Answer,
 }
 
+// What the single call comes to where the state is fit.
+pub struct Went {
+    pub controller: Controller,
+    pub answer: Answer,
+    // The outputs then.
+    pub outputs: u16,
+}
+
 // What an event that isn't refused comes to.
 struct Turn {
     // How far the command has come then.
     progress: Progress,
     deed: Deed,
     reply: Reply,
+}
+
+// What it leaves.
+struct Taken {
+    controller: Controller,
+    // It is one that leaves the outputs as they were.
+    keeps: bool,
 }
 
 // What an event has the machine do.

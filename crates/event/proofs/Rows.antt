@@ -1,8 +1,7 @@
 -- What the table says of a kind that no arm of a `match` names. Assumes nothing.
 use Prim.Native.Nat.{ℕ, zero, suc}
 use mathlib.Core.Path.{_≡_, refl}
-use mathlib.Core.Logic.{_⊎_, inl, inr}
-use Rattle.event.specs.Words.{bitsOf, eventOf}
+use Rattle.event.specs.Words.{eventOf}
 use Rattle.event.specs.declared.Event.the-variants.{Timeout}
 
 -- A number is a kind that the table has, or lies past it.
@@ -18,13 +17,6 @@ by-kind P p0 p1 p2 p3 p4 p5 p6 p7 p8 (suc (suc (suc (suc (suc zero))))) = p5
 by-kind P p0 p1 p2 p3 p4 p5 p6 p7 p8 (suc (suc (suc (suc (suc (suc zero)))))) = p6
 by-kind P p0 p1 p2 p3 p4 p5 p6 p7 p8 (suc (suc (suc (suc (suc (suc (suc zero))))))) = p7
 by-kind P p0 p1 p2 p3 p4 p5 p6 p7 p8 (suc (suc (suc (suc (suc (suc (suc (suc n)))))))) = p8 n
-
--- A kind other than 2, 3, 4 and 6 has no data.
-pub no-data : (k : ℕ) → ((k ≡ 2) ⊎ (k ≡ 4) → ⊥) → (k ≡ 3 → ⊥) → (k ≡ 6 → ⊥) → bitsOf k ≡ 0
-no-data =
-    by-kind (λ k. ((k ≡ 2) ⊎ (k ≡ 4) → ⊥) → (k ≡ 3 → ⊥) → (k ≡ 6 → ⊥) → bitsOf k ≡ 0)
-    (λ p q r. refl) (λ p q r. refl) (λ p q r. absurd (p (inl refl))) (λ p q r. absurd (q refl))
-    (λ p q r. absurd (p (inr refl))) (λ p q r. refl) (λ p q r. absurd (r refl)) (λ p q r. refl) (λ n p q r. refl)
 
 -- Past kind 6 the event is TIMEOUT.
 pub last : (d k : ℕ) → (k ≡ 0 → ⊥) → (k ≡ 1 → ⊥) → (k ≡ 2 → ⊥) → (k ≡ 3 → ⊥) → (k ≡ 4 → ⊥) → (k ≡ 5 → ⊥) → (k ≡ 6 → ⊥) → eventOf k d ≡ Timeout

@@ -9,7 +9,7 @@ use mathlib.Core.Bool.{Bool, true, false}
 use lib.Dec.{ltb, eqb}
 use borrow.Author.Tests.{ltb-true, ltb-false}
 use Rattle.bits.specs.Straps.{MOST-STRAPS}
-use Rattle.event.specs.Words.{kindOf, fieldOf, bitsOf, eventOf, accept, unpacked, StrayBitSet, wordOf, strapsOf, wordUnless, packed, Bytes, isReset, unpackRefusal, packRefusal, packWord}
+use Rattle.event.specs.Words.{kindOf, fieldOf, bitsOf, eventOf, accept, unpacked, StrayBitSet, wordOf, strapsOf, wordUnless, packed, Bytes, isReset, isResetWord, unpackRefusal, packRefusal, packWord}
 use Rattle.event.specs.declared.Event.{Event}
 use Rattle.event.specs.declared.Event.the-variants.{Start, Stop, Byte, Take, Pins, Tick, Reset, Timeout}
 use Rattle.event.specs.declared.Unpacked.{Unpacked}
@@ -22,6 +22,7 @@ use Rattle.event.proofs.RoundTrip.{accepted-row, word-back, accepted-ba
 use Rattle.event.proofs.unpack.Reads as unpack-reads
 use Rattle.event.proofs.pack.Reads as pack-reads
 use Rattle.event.proofs.Event.is_reset.Reads as is-reset
+use Rattle.event.proofs.resets.Reads as resets-reads
 use Rattle.event.proofs.Unpacked.refusal.Reads as unpack-refusal
 use Rattle.event.proofs.Packed.refusal.Reads as pack-refusal
 use Rattle.event.proofs.Packed.word.Reads as pack-word
@@ -125,7 +126,7 @@ row-reset d =
     rows.by-kind (λ k. k < 8 → isReset (eventOf k d) ≡ eqb k 6) (λ h. refl) (λ h. refl) (λ h. refl) (λ h. refl) (λ h. refl) (λ h. refl)
     (λ h. refl) (λ h. refl) (λ n h. absurd (omega arith))
 
-pub resets : (w : ℕ) → w < 2 ^ 16 → (e : Event) → unpacked w ≡ Accepted e → isReset e ≡ eqb (kindOf w) 6
+pub resets : (w : ℕ) → w < 2 ^ 16 → (e : Event) → unpacked w ≡ Accepted e → isReset e ≡ isResetWord w
 resets w l e p = rw (← accepted-row w e p .1) (row-reset (fieldOf w) (kindOf w) (omega arith))
 
 -- An event is refused exactly when its straps exceed 15.
@@ -154,6 +155,9 @@ pack-determined e r s p q = p ∙ sym q
 
 pub is-reset-determined : (e : Event) (r s : Bool) → is-reset.Post tt (e, tt) r (e, tt) → is-reset.Post tt (e, tt) s (e, tt) → r ≡ s
 is-reset-determined e r s p q = p ∙ sym q
+
+pub resets-determined : (w : ℕ) (r s : Bool) → resets-reads.Post tt (w, tt) r (w, tt) → resets-reads.Post tt (w, tt) s (w, tt) → r ≡ s
+resets-determined w r s p q = p ∙ sym q
 
 pub unpack-refusal-determined : (u : Unpacked) (r s : ℕ) → unpack-refusal.Post tt (u, tt) r (u, tt) → unpack-refusal.Post tt (u, tt) s (u, tt) → r ≡ s
 unpack-refusal-determined u r s p q = p ∙ sym q

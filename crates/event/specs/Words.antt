@@ -59,6 +59,10 @@ kindOf w = w / KIND
 abbrev pub fieldOf : ℕ → ℕ
 fieldOf w = w % KIND
 
+-- Whether it is the kind of a RESET.
+abbrev pub isResetWord : ℕ → Bool
+isResetWord w = eqb (kindOf w) 6
+
 abbrev pub accept : Bool → Event → Unpacked
 accept true e = Accepted e
 accept false e = StrayBit

@@ -3,7 +3,7 @@
 ghost use mathlib.Core.Path.{_≡_};
 ghost use Prim.Native.Nat.{_<_, _≤_, _+_, _*_, _^_};
 ghost use Rattle.bits.specs.Straps.{MOST-STRAPS};
-ghost use Rattle.event.specs.Words.{KIND, bitsOf, eventOf, unpacked, resetData, packed, isReset};
+ghost use Rattle.event.specs.Words.{KIND, bitsOf, eventOf, unpacked, isReset, isResetWord, resetData, packed};
 ghost use Rattle.event.specs.Words.{unpackRefusal, packRefusal, packWord};
 use bits::straps;
 
@@ -47,6 +47,10 @@ impl Event {
 
     const STRAPS: u16 = 256;
 
+    const RESET: u16 = 6;
+    // How many values the data of each kind can have: the bits above them must be 0.
+    const ROOM: [u16; 8] = [1, 1, 256, 2, 256, 1, 8192, 1];
+
     pub fn is_reset(self) -> bool
         ensures { λ r. ⌜ r ≡ isReset self ⌝ }
     {
@@ -67,16 +71,18 @@ impl Event {
     }
 }
 
-// How many values the data of a kind can have: the bits above them must be 0.
+// Whether a word is a RESET's, by its kind.
+pub fn resets(word: u16) -> bool
+    ensures { λ r. ⌜ r ≡ isResetWord word ⌝ }
+{
+    word / Event::KIND == Event::RESET
+}
+
 fn room(kind: u16) -> u16
+    requires { ⌜ kind < 8 ⌝ }
     ensures { λ r. ⌜ r ≡ 2 ^ bitsOf kind ⌝ }
 {
-    match kind {
-        2 | 4 => 256,
-        3 => 2,
-        6 => 8192,
-        _ => 1,
-    }
+    Event::ROOM[kind as usize]
 }
 
 fn event_of(kind: u16, field: u16) -> Event

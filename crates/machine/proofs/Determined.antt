@@ -4,6 +4,7 @@ use mathlib.Core.Path.{_≡_, _∙_, sym}
 use mathlib.Core.Bool.{Bool}
 use Rattle.machine.specs.declared.Machine.{Machine}
 use Rattle.machine.specs.declared.Act.{Act}
+use Rattle.machine.specs.declared.Acted.{Acted}
 use Rattle.machine.proofs.Machine.fresh.Reads as fresh-reads
 use Rattle.machine.proofs.Machine.fit.Reads as fit-reads
 use Rattle.machine.proofs.Machine.reading.Reads as reading-reads
@@ -25,7 +26,7 @@ pub outputs-determined : (m : Machine) (r s : ℕ) → outputs-reads.Post tt (m,
 outputs-determined m r s p q = p ∙ sym q
 
 pub does-determined :
-    (m : Machine) (a : Act) (r s : Machine) → does-reads.Post tt (m, (a, tt)) r (m, (a, tt)) → does-reads.Post tt (m, (a, tt)) s (m, (a, tt)) → r ≡ s
+    (m : Machine) (a : Act) (r s : Acted) → does-reads.Post tt (m, (a, tt)) r (m, (a, tt)) → does-reads.Post tt (m, (a, tt)) s (m, (a, tt)) → r ≡ s
 does-determined m a r s p q = p ∙ sym q
 
 pub pulse-ticks-determined : (t r s : ℕ) → pulse-ticks-reads.Post tt (t, tt) r (t, tt) → pulse-ticks-reads.Post tt (t, tt) s (t, tt) → r ≡ s

@@ -1,5 +1,6 @@
 pub mod Choice
 pub mod Bays
+pub mod Keeps
 pub mod Addresses
 pub mod After
 pub mod Kept

@@ -1,17 +1,18 @@
 -- What a machine does (document 01): whole acts, each at once.
 use Prim.Native.Nat.{ℕ, _+_, _-_, _/_, _%_}
-use mathlib.Core.Bool.{Bool, true, not, cond, _&&_}
+use mathlib.Core.Bool.{Bool, true, false, not, cond, _&&_, Bool·beq}
 use mathlib.Core.List.{List, [], _∷_}
 use lib.Dec.{ltb}
 use Rattle.bits.specs.Straps.{lockDef, lockMode}
 use Rattle.bay.specs.declared.Bay.{Bay}
 use Rattle.bay.specs.Record.{resetBay}
 use Rattle.bay.specs.Debounce.{sampledBay}
-use Rattle.bay.specs.Moves.{tickedBay}
-use Rattle.machine.specs.Record.{PHASES, bayAt, isOpen, become, withBays, unwritten}
+use Rattle.bay.specs.Moves.{tickedBay, rests}
+use Rattle.machine.specs.Record.{PHASES, LIT, bayIn, bayAt, isOpen, become, withBays, unwritten}
 use Rattle.machine.specs.Registers.{settingOf, written}
 use Rattle.machine.specs.declared.Machine.{Machine}
 use Rattle.machine.specs.declared.Act.{Act}
+use Rattle.machine.specs.declared.Acted.{Acted}
 use Rattle.machine.specs.declared.Act.the-variants.{Write, Read, Pins, Tick, Reset}
 
 -- After RESET LOCK_CTL is equal to LOCK_DEF if LOCK_MODE is 0 and else 0.
@@ -64,3 +65,25 @@ does (Reset straps levels short) m = resetTo straps levels short
 unfoldable pub doesAll : List Act → Machine → Machine
 doesAll [] m = m
 doesAll (a ∷ acts) m = doesAll acts (does a m)
+
+-- ---- an act that leaves the outputs as they were, so that they needn't be worked out again
+
+-- A TICK finds nothing to do in either bay.
+unfoldable pub restful : List Bay → Bool
+restful bs = rests (bayIn bs 0) && rests (bayIn bs 1)
+
+-- A flashing lamp is lit after a TICK as it was before.
+abbrev pub keepsLit : ℕ → Bool
+keepsLit p = Bool·beq (ltb p LIT) (ltb (nextPhase p) LIT)
+
+-- A read, a pin sample, and a TICK of both these kinds.
+unfoldable pub keeps : Act → Machine → Bool
+keeps (Write a v) m = false
+keeps (Read a) m = true
+keeps (Pins levels) m = true
+keeps Tick m = restful (m .bays) && keepsLit (m .phase)
+keeps (Reset straps levels short) m = false
+
+-- The machine after an act, and whether it is such an act.
+abbrev pub acted : Act → Machine → Acted
+acted a m = record { machine = does a m; keeps = keeps a m }

@@ -1,16 +1,19 @@
 // What each act does to a machine (document 01).
 ghost use mathlib.Core.Path.{_≡_};
-ghost use mathlib.Core.Bool.{cond};
+ghost use mathlib.Core.Bool.{cond, true};
+ghost use Prim.Native.Nat.{ℕ};
 ghost use Rattle.bay.specs.Debounce.{sampledBay};
-ghost use Rattle.bay.specs.Moves.{tickedBay};
-ghost use Rattle.machine.specs.Acts.{letrAfterReset, resetTo, pinsTo, tickTo, nextPhase};
-ghost use Rattle.machine.specs.Acts.{does as Acts·does};
+ghost use Rattle.bay.specs.Moves.{tickedBay, movedBay};
+ghost use Rattle.bay.specs.declared.Setting.{Setting};
+ghost use Rattle.machine.specs.Record.{bayIn};
+ghost use Rattle.machine.specs.Acts.{letrAfterReset, resetTo, pinsTo, nextPhase, restful, acted};
 use crate::Act;
+use crate::Acted;
 use crate::Machine;
 use crate::Shared;
 use crate::record::is_open;
 use bay::Bay;
-use bay::Setting;
+use bay::Inputs;
 use bits::straps::lock_def;
 use bits::straps::lock_mode;
 
@@ -39,11 +42,19 @@ fn sampled(open: bool, bay: Bay, levels: u8) -> Bay
     if open { bay.sampled(levels) } else { bay }
 }
 
-// A bay after a tick. A closed bay is passed by.
-fn ticked(open: bool, bay: Bay, setting: Setting) -> Bay
-    ensures { λ r. ⌜ r ≡ cond «open» (tickedBay setting bay) bay ⌝ }
+// A bay after a tick, with its inputs. A closed bay is passed by.
+fn moved(open: bool, bay: Bay, ticks: u8, inputs: Inputs) -> Bay
+    ensures { λ r. ⌜ r ≡ cond «open» (movedBay ticks bay (inputs .n1394) (inputs .nusb) (inputs .nremreq)) bay ⌝ }
 {
-    if open { bay.ticked(setting) } else { bay }
+    if open { bay.moved(ticks, inputs) } else { bay }
+}
+
+// A tick finds nothing to do in either bay, and leaves both as they are.
+fn rest(bays: [Bay; 2]) -> bool
+    ensures { λ r. ⌜ r ≡ restful bays ⌝ }
+    ensures { λ r. ⌜ (r ≡ true → (s : Setting) → (i : ℕ) → tickedBay s (bayIn bays i) ≡ bayIn bays i) ⌝ }
+{
+    bays[0].rests() & bays[1].rests()
 }
 
 impl Machine {
@@ -64,44 +75,86 @@ impl Machine {
         }
     }
 
-    fn pins(mut self, levels: u8) -> Machine
+    fn pins(self, levels: u8) -> Machine
         ensures { λ r. ⌜ r ≡ pinsTo levels self ⌝ }
     {
+        let shared = self.shared;
         let bays = self.bays;
-        let first = bays[0].sampled(levels / 16);
-        let second = sampled(is_open(self.shared.bay_count, 1), bays[1], levels % 16);
-        let pair = [first, second];
-        self.bays = pair;
-        self
+        Machine {
+            started: self.started,
+            straps: self.straps,
+            shared,
+            phase: self.phase,
+            bays: [
+                bays[0].sampled(levels / 16),
+                sampled(is_open(self.shared.bay_count, 1), bays[1], levels % 16),
+            ],
+        }
     }
 
-    fn tick(mut self) -> Machine
-        ensures { λ r. ⌜ r ≡ tickTo self ⌝ }
+    // Where both bays rest, as in most ticks, only the phase moves. Else the inputs of both come first, and then the record.
+    fn tick(self) -> Acted
+        ensures { λ r. ⌜ r ≡ acted Act.Tick self ⌝ }
     {
+        let shared = self.shared;
         let bays = self.bays;
-        let setting = self.setting();
-        let first = bays[0].ticked(setting);
-        let second = ticked(is_open(self.shared.bay_count, 1), bays[1], setting);
-        let pair = [first, second];
-        self.bays = pair;
-        self.phase = next_phase(self.phase);
-        self
+        let phase = next_phase(self.phase);
+        if rest(bays) {
+            return Acted {
+                machine: Machine {
+                    started: self.started,
+                    straps: self.straps,
+                    shared,
+                    phase,
+                    bays: [bays[0], bays[1]],
+                },
+                keeps: (self.phase < Machine::LIT) == (phase < Machine::LIT),
+            };
+        }
+        let ticks = self.shared.wait_time;
+        let first = bays[0].inputs();
+        let second = bays[1].inputs();
+        Acted {
+            machine: Machine {
+                started: self.started,
+                straps: self.straps,
+                shared,
+                phase,
+                bays: [
+                    bays[0].moved(ticks, first),
+                    moved(is_open(self.shared.bay_count, 1), bays[1], ticks, second),
+                ],
+            },
+            keeps: false,
+        }
     }
 
     // The machine after an act.
-    pub fn does(self, act: Act) -> Machine
-        ensures { λ r. ⌜ r ≡ Acts·does act self ⌝ }
+    pub fn does(self, act: Act) -> Acted
+        ensures { λ r. ⌜ r ≡ acted act self ⌝ }
     {
         match act {
-            Act::Write { register, value } => self.write(register, value),
-            Act::Read(_) => self,
-            Act::Pins(levels) => self.pins(levels),
+            Act::Write { register, value } => Acted {
+                machine: self.write(register, value),
+                keeps: false,
+            },
+            Act::Read(_) => Acted {
+                machine: self,
+                keeps: true,
+            },
+            Act::Pins(levels) => Acted {
+                machine: self.pins(levels),
+                keeps: true,
+            },
             Act::Tick => self.tick(),
             Act::Reset {
                 straps,
                 levels,
                 short_pulse,
-            } => Machine::reset(straps, levels, short_pulse),
+            } => Acted {
+                machine: Machine::reset(straps, levels, short_pulse),
+                keeps: false,
+            },
         }
     }
 }

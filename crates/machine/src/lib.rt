@@ -20,16 +20,17 @@ pub struct Machine {
     pub bays: [Bay; 2],
 }
 
-// The registers that the bays share: DBCCR, LETR and 42h.
+// The registers that the bays share: DBCCR, LETR and 42h. The order of the fields is one in which the compiler copies them
+// one by one (docs/DECISIONS.md).
 pub struct Shared {
-    // DBCCR has been written since the RESET.
-    pub dbccr_written: bool,
-    pub seclock: bool,
-    pub bay_count: u8,
-    // LETR.
-    pub lock_time: u8,
     // 42h: for how many ticks a device seats before its bay is Inserted.
     pub wait_time: u8,
+    pub bay_count: u8,
+    // DBCCR has been written since the RESET.
+    pub dbccr_written: bool,
+    // LETR.
+    pub lock_time: u8,
+    pub seclock: bool,
 }
 
 // What a machine does, each at once.
@@ -50,6 +51,13 @@ pub enum Act {
         levels: u8,
         short_pulse: bool,
     },
+}
+
+// A machine after an act.
+pub struct Acted {
+    pub machine: Machine,
+    // The act is one that leaves the outputs as they were.
+    pub keeps: bool,
 }
 
 impl Machine {

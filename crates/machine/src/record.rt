@@ -1,6 +1,6 @@
 // The machine's record: fresh, fit, and its bays by number.
 ghost use mathlib.Core.Path.{_≡_};
-ghost use Rattle.machine.specs.Record.{unwritten, freshMachine, fits, sharedFit, bayIn, placed, openBy};
+ghost use Rattle.machine.specs.Record.{unwritten, freshMachine, fits, sharedFit, bayIn, openBy};
 use crate::Machine;
 use crate::Shared;
 use bay::Bay;
@@ -59,18 +59,6 @@ pub(crate) fn bay_in(bays: [Bay; 2], i: u8) -> Bay
     ensures { λ r. ⌜ r ≡ bayIn bays i ⌝ }
 {
     if i == 0 { bays[0] } else { bays[1] }
-}
-
-// The bays with another bay 0, or else with another bay 1.
-pub(crate) fn place(bays: [Bay; 2], i: u8, bay: Bay) -> [Bay; 2]
-    ensures { λ r. ⌜ r ≡ placed i bay bays ⌝ }
-{
-    if i == 0 {
-        let second = bays[1];
-        return [bay, second];
-    }
-    let first = bays[0];
-    [first, bay]
 }
 
 // Bay 0 is always open, bay 1 unless the stored count is 1.

@@ -4,14 +4,13 @@ ghost use mathlib.Core.Bool.{cond};
 ghost use lib.Dec.{eqb};
 ghost use Prim.Native.Nat.{_/_, _%_};
 ghost use Rattle.bay.specs.Record.{emptyBay};
-ghost use Rattle.bay.specs.Registers.{bstrOf, bcerOf};
+ghost use Rattle.bay.specs.Registers.{bstrOf, bcerOf, bstrWritten, controlOf, controlledBay};
 ghost use Rattle.machine.specs.Record.{ONE-BAY};
 ghost use Rattle.machine.specs.Registers.{reading, register, dbccrOf, pulseTicks, settingOf, dbccrWrite, letrWrite, waitWrite, bstrWrite, bcerWrite, written};
 use crate::Machine;
 use crate::Shared;
 use crate::record::bay_in;
 use crate::record::is_open;
-use crate::record::place;
 use bay::Bay;
 use bay::Control;
 use bay::Setting;
@@ -61,6 +60,24 @@ fn bcer(open: bool, bay: Bay) -> u8
     ensures { λ r. ⌜ r ≡ cond «open» (bcerOf bay) 0 ⌝ }
 {
     if open { bay.bcer() } else { 0 }
+}
+
+// A bay after a write to its BSTR, or as it is where the write isn't for it.
+fn bstr_written(meant: bool, bay: Bay, value: u8) -> Bay
+    ensures { λ r. ⌜ r ≡ cond meant (bstrWritten value bay) bay ⌝ }
+{
+    if meant { bay.with_bstr(value) } else { bay }
+}
+
+// BCER, likewise.
+fn bcer_written(meant: bool, bay: Bay, value: u8, setting: Setting) -> Bay
+    ensures { λ r. ⌜ r ≡ cond meant (controlledBay (controlOf value) setting bay) bay ⌝ }
+{
+    if meant {
+        bay.controlled(Control::of(value), setting)
+    } else {
+        bay
+    }
 }
 
 impl Shared {
@@ -115,7 +132,7 @@ impl Machine {
     }
 
     // Only the first write after a RESET counts; count 1 closes bay 1 and makes its record empty.
-    fn with_dbccr(mut self, value: u8) -> Machine
+    fn with_dbccr(self, value: u8) -> Machine
         ensures { λ r. ⌜ r ≡ dbccrWrite value self ⌝ }
     {
         if self.shared.dbccr_written {
@@ -123,59 +140,98 @@ impl Machine {
         }
         let bays = self.bays;
         let count = value % 4;
-        let first = bays[0];
-        let second = closed_by(count, bays[1]);
-        let pair = [first, second];
-        let shared = Shared {
-            dbccr_written: true,
-            seclock: has(value, 16),
-            bay_count: count,
-            lock_time: self.shared.lock_time,
-            wait_time: self.shared.wait_time,
-        };
-        self.shared = shared;
-        self.bays = pair;
-        self
+        Machine {
+            started: self.started,
+            straps: self.straps,
+            shared: Shared {
+                wait_time: self.shared.wait_time,
+                bay_count: count,
+                dbccr_written: true,
+                lock_time: self.shared.lock_time,
+                seclock: has(value, 16),
+            },
+            phase: self.phase,
+            bays: [bays[0], closed_by(count, bays[1])],
+        }
     }
 
-    fn with_letr(mut self, value: u8) -> Machine
+    fn with_letr(self, value: u8) -> Machine
         ensures { λ r. ⌜ r ≡ letrWrite value self ⌝ }
     {
-        let time = value % 4;
-        self.shared.lock_time = time;
-        self
+        let bays = self.bays;
+        Machine {
+            started: self.started,
+            straps: self.straps,
+            shared: Shared {
+                wait_time: self.shared.wait_time,
+                bay_count: self.shared.bay_count,
+                dbccr_written: self.shared.dbccr_written,
+                lock_time: value % 4,
+                seclock: self.shared.seclock,
+            },
+            phase: self.phase,
+            bays,
+        }
     }
 
-    fn with_wait(mut self, value: u8) -> Machine
+    fn with_wait(self, value: u8) -> Machine
         ensures { λ r. ⌜ r ≡ waitWrite value self ⌝ }
     {
-        self.shared.wait_time = value;
-        self
+        let bays = self.bays;
+        Machine {
+            started: self.started,
+            straps: self.straps,
+            shared: Shared {
+                wait_time: value,
+                bay_count: self.shared.bay_count,
+                dbccr_written: self.shared.dbccr_written,
+                lock_time: self.shared.lock_time,
+                seclock: self.shared.seclock,
+            },
+            phase: self.phase,
+            bays,
+        }
     }
 
-    fn with_bstr(mut self, i: u8, value: u8) -> Machine
+    fn with_bstr(self, i: u8, value: u8) -> Machine
         ensures { λ r. ⌜ r ≡ bstrWrite i value self ⌝ }
     {
         if !is_open(self.shared.bay_count, i) {
             return self;
         }
+        let shared = self.shared;
         let bays = self.bays;
-        let pair = place(bays, i, bay_in(bays, i).with_bstr(value));
-        self.bays = pair;
-        self
+        Machine {
+            started: self.started,
+            straps: self.straps,
+            shared,
+            phase: self.phase,
+            bays: [
+                bstr_written(i == 0, bays[0], value),
+                bstr_written(!(i == 0), bays[1], value),
+            ],
+        }
     }
 
-    fn with_bcer(mut self, i: u8, value: u8) -> Machine
+    fn with_bcer(self, i: u8, value: u8) -> Machine
         ensures { λ r. ⌜ r ≡ bcerWrite i value self ⌝ }
     {
         if !is_open(self.shared.bay_count, i) {
             return self;
         }
+        let shared = self.shared;
         let bays = self.bays;
-        let bay = bay_in(bays, i).controlled(Control::of(value), self.setting());
-        let pair = place(bays, i, bay);
-        self.bays = pair;
-        self
+        let setting = self.setting();
+        Machine {
+            started: self.started,
+            straps: self.straps,
+            shared,
+            phase: self.phase,
+            bays: [
+                bcer_written(i == 0, bays[0], value, setting),
+                bcer_written(!(i == 0), bays[1], value, setting),
+            ],
+        }
     }
 
     // A whole write.

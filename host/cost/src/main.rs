@@ -3,8 +3,9 @@
 //!     rt mir dock | cost
 //!
 //! It reads the printed program and runs the single call: on a fresh controller with a RESET that finds a USB device
-//! in bay 0, and then with one event. A copy is a value of at least a bay's size that is passed, returned, put into
-//! another record or taken out of one. The compiler may leave copies out.
+//! in bay 0, and then with one event; and likewise the call that a batch's loop makes, on a state that is known to be
+//! fit. A copy is a value of at least a bay's size that is passed, returned, put into another record or taken out of
+//! one. The compiler may leave copies out.
 
 mod run;
 mod text;
@@ -26,12 +27,28 @@ fn size(program: &Program, name: &str) -> usize {
 }
 
 /// The next state, and what the call copied.
-fn step(program: &Program, state: &Value, word: u64) -> (Value, Copies) {
+fn call(program: &Program, name: &str, arguments: Vec<Value>) -> (Value, Copies) {
     let mut copies = Copies::new();
-    let least = size(program, "bay::Bay");
-    let stepped = program.call("dock::Controller::step", vec![state.clone(), Value::Int(word)], least, &mut copies);
-    assert!(matches!(stepped.field(1), Value::Variant(DONE, _)), "word {:04X} is never refused", word);
-    (stepped.field(0).clone(), copies)
+    let answered = program.call(name, arguments, size(program, "bay::Bay"), &mut copies);
+    assert!(matches!(answered.field(1), Value::Variant(DONE, _)), "these words are never refused");
+    (answered.field(0).clone(), copies)
+}
+
+fn step(program: &Program, state: &Value, word: u64) -> (Value, Copies) {
+    call(program, "dock::Controller::step", vec![state.clone(), Value::Int(word)])
+}
+
+/// With outputs of 0, which are copied like any others.
+fn goes(program: &Program, state: &Value, word: u64) -> (Value, Copies) {
+    call(program, "dock::Controller::goes", vec![state.clone(), Value::Int(0), Value::Int(word)])
+}
+
+fn tell(program: &Program, state: &Value, by: fn(&Program, &Value, u64) -> (Value, Copies)) {
+    for (name, word) in EVENTS {
+        let (_, copies) = by(program, state, word);
+        let parts: Vec<String> = copies.iter().map(|(what, count)| format!("{} of {}", count, what)).collect();
+        println!("    {:>5}  {} ({})", copies.values().sum::<usize>(), name, parts.join("; "));
+    }
 }
 
 fn main() {
@@ -44,9 +61,7 @@ fn main() {
     let fresh = program.call("dock::Controller::fresh", Vec::new(), usize::MAX, &mut Copies::new());
     let (state, _) = step(&program, &fresh, RESET);
     println!("copies of a bay or more in the single call, as the program is written:");
-    for (name, word) in EVENTS {
-        let (_, copies) = step(&program, &state, word);
-        let parts: Vec<String> = copies.iter().map(|(what, count)| format!("{} of {}", count, what)).collect();
-        println!("    {:>5}  {} ({})", copies.values().sum::<usize>(), name, parts.join("; "));
-    }
+    tell(&program, &state, step);
+    println!(".. in the call of a batch's loop:");
+    tell(&program, &state, goes);
 }

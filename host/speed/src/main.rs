@@ -64,7 +64,7 @@ fn describe_machine(repeats: usize) {
     match std::env::var(EMULATOR) {
         Ok(emulator) => {
             println!("architecture: {}, under the emulator {}", architecture, emulator);
-            println!("Times under an emulator say nothing about real hardware. On x86-64 itself was seen:");
+            println!("Times under an emulator say nothing about real hardware. On x86-64 itself was seen, before request 3:");
             seen_on_x86_64().for_each(|line| println!("    {}", line));
         }
         Err(_) => println!("architecture: {}, no emulator", architecture),

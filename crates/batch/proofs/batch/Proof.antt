@@ -17,7 +17,9 @@ returns c = let a = c .before .before .before .before .before .args in
     (rw (← c .before .verdict .ensures, same .0), rw (← c .before .verdict .ensures) (sym (same .1)))
 
 run-requires : tie.Need-run-requires
-run-requires c κs = has-room _ _ _ _ (sym (c .before .before .before .verdict .ensures) ∙ c .before .enum-told .given .1) .0
+run-requires c κs =
+    let had = has-room _ _ _ _ (sym (c .before .before .before .verdict .ensures) ∙ c .before .enum-told .given .1) in
+    (had .0, had .1)
 
 returns-2 : tie.Need-returns-2
 unfolding batchOf bufferAfter

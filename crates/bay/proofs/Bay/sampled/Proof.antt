@@ -7,7 +7,16 @@ use Rattle.bay.proofs.Bay.sampled.Tie as tie
 
 returns : tie.Need-returns
 unfolding sampledBay
-returns c = rw (c .before .before .before .before .before .restarted .ensures, c .before .before .before .before .restarted2 .ensures, c .before .before .before .restarted3 .ensures, c .before .before .before .before .before .before .before .before .has .ensures, c .before .before .before .before .before .before .before .has2 .ensures, c .before .before .before .before .before .before .has3 .ensures, c .has4 .ensures)
+returns c =
+    rw (
+      c .before .before .before .restarted .ensures,
+      c .before .before .restarted2 .ensures,
+      c .before .restarted3 .ensures,
+      c .before .before .before .before .before .before .has .ensures,
+      c .before .before .before .before .before .has2 .ensures,
+      c .before .before .before .before .has3 .ensures,
+      c .has4 .ensures,
+    )
 
 pub sampled-spec : {M : Type 1} → statement M
 sampled-spec =

@@ -1,23 +1,43 @@
--- `machine::Machine::tick` meets its contract: each part is what the call for it ensures. Assumes nothing.
+-- `machine::Machine::tick` meets its contract: where both bays rest only the phase moves; else each part is what the call for it
+-- ensures. Assumes nothing.
+use mathlib.Core.Path.{sym, _∙_}
 use borrow.Author.Needs.{needs}
+use Rattle.bay.specs.Moves.{tickedBay}
 use Rattle.machine.specs.Record.{bayIn, openBy}
-use Rattle.machine.specs.Acts.{tickedAt, tickTo}
+use Rattle.machine.specs.Registers.{settingOf}
+use Rattle.machine.specs.Acts.{tickedAt, tickTo, does, keeps}
+use Rattle.machine.proofs.Keeps.{unmoved}
 use Rattle.machine.proofs.Machine.tick.Statement.{statement}
 use Rattle.machine.proofs.Machine.tick.Tie as tie
 
 returns : tie.Need-returns
-unfolding tickTo tickedAt bayIn openBy
-returns c = rw (c .next-phase .ensures, c .before .before .before .before .ticked .ensures, c .before .ticked2 .ensures, c .before .before .before .is-open .ensures, c .before .before .before .before .before .before .setting .ensures)
+unfolding does keeps tickTo bayIn
+returns c =
+    let m = c .before .before .before .before .before .before .before .before .args .self in
+    let asked = c .before .before .before .before in
+    let still = asked .rest .ensures .1 (c .before .before .before .if1 .taken) (settingOf m) in
+    rw (c .before .before .before .before .before .next-phase .ensures, unmoved m 0 (still 0), unmoved m 1 (still 1), sym (asked .rest .ensures .0) ∙ c .before .before .before .if1 .taken)
+
+returns-2 : tie.Need-returns-2
+unfolding does keeps tickTo tickedAt tickedBay settingOf bayIn openBy
+returns-2 c = rw (sym (c .before .before .before .before .before .before .before .before .before .before .rest .ensures .0) ∙ c .before .before .before .before .before .before .before .before .before .if1 .left, c .before .before .before .before .before .before .before .before .before .before .before .next-phase .ensures, c .before .before .before .moved .ensures, c .moved2 .ensures, c .before .before .is-open .ensures, c .before .before .before .before .before .before .before .inputs .ensures, c .before .before .before .before .before .inputs2 .ensures)
 
 pub tick-spec : {M : Type 1} → statement M
 tick-spec =
     tie.close
     (tie.spec
     (λ c κs. search needs)
+    (λ c κs. search needs)
+    (λ c. search needs)
+    (λ c. search needs)
+    returns
+    (λ c. search needs)
+    (λ c κs. search needs)
+    (λ c. search needs)
+    (λ c κs. search needs)
     (λ c. search needs)
     (λ c κs. search needs)
     (λ c κs. search needs)
     (λ c. search needs)
     (λ c κs. search needs)
-    (λ c κs. search needs)
-    returns)
+    returns-2)

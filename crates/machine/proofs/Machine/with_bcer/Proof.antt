@@ -1,8 +1,10 @@
--- `machine::Machine::with_bcer` meets its contract: each return has the tests that led there, which are the definition's in its
--- order. Assumes nothing.
+-- `machine::Machine::with_bcer` meets its contract: a closed bay takes no write; else each bay is what the call for it ensures.
+-- Assumes nothing.
 use borrow.Author.Tests.{not-true, not-false}
 use borrow.Author.Needs.{needs}
-use Rattle.machine.specs.Registers.{bcerWrite}
+use Rattle.bay.specs.Registers.{controlOf, controlledBay}
+use Rattle.machine.specs.Registers.{bcerWrite, settingOf}
+use Rattle.machine.proofs.Bays.{meant}
 use Rattle.machine.proofs.Machine.with_bcer.Statement.{statement}
 use Rattle.machine.proofs.Machine.with_bcer.Tie as tie
 
@@ -12,7 +14,10 @@ returns c = rw (← c .before .is-open .ensures, not-true (c .before .is-open .r
 
 returns-2 : tie.Need-returns-2
 unfolding bcerWrite
-returns-2 c = rw (← c .before .before .before .before .before .before .before .is-open .ensures, not-false (c .before .before .before .before .before .before .before .is-open .result) (c .before .before .before .before .before .before .if1 .left), c .place .ensures, c .before .controlled .ensures, c .before .before .before .of .ensures, c .before .before .setting .ensures, c .before .before .before .before .bay-in .ensures)
+returns-2 c =
+    let a = c .before .before .before .before .before .before .before .before .before .args in
+    let asked = c .before .before .before .before .before .before .before .before in
+    rw (← asked .is-open .ensures, not-false (asked .is-open .result) (c .before .before .before .before .before .before .before .if1 .left), c .before .before .bcer-written .ensures, c .bcer-written2 .ensures, c .before .before .before .before .setting .ensures) (meant (controlledBay (controlOf (a .value)) (settingOf (a .self))) (a .i) (a .self))
 
 pub with-bcer-spec : {M : Type 1} → statement M
 with-bcer-spec =
@@ -21,8 +26,8 @@ with-bcer-spec =
     (λ c κs. search needs)
     returns
     (λ c κs. search needs)
+    (λ c. search needs)
     (λ c κs. search needs)
-    (λ c κs. search needs)
-    (λ c κs. search needs)
+    (λ c. search needs)
     (λ c κs. search needs)
     returns-2)

@@ -13,15 +13,15 @@ returns c = rw (chosen (c .if1 .taken))
 
 returns-2 : tie.Need-returns-2
 unfolding dbccrWrite dbccrStored bayIn
-returns-2 c = rw (passed (c .before .before .before .before .before .if1 .left), c .before .closed-by .ensures, c .has .ensures)
+returns-2 c = rw (passed (c .before .before .before .before .before .if1 .left), c .closed-by .ensures, c .before .before .before .has .ensures)
 
 pub with-dbccr-spec : {M : Type 1} → statement M
 with-dbccr-spec =
     tie.close
     (tie.spec
     returns
-    (λ c. search needs)
-    (λ c. search needs)
     (λ c κs. search needs)
+    (λ c. search needs)
+    (λ c. search needs)
     (λ c κs. search needs)
     returns-2)
