@@ -91,7 +91,7 @@ impl Bay {
         }
     }
 
-    // A device leaves in a TICK with these inputs.
+    // A device leaves in a TICK with these inputs, whatever 42h has. The pulse has fallen already.
     fn left(self, pulse: u8, inputs: Inputs) -> Bay
         requires { ⌜ pulse ≡ self .pulse - 1 ⌝ }
         requires { ⌜ leaves self (inputs .n1394) (inputs .nusb) ≡ true ⌝ }

@@ -17,7 +17,7 @@ fn takes(started: bool, word: u16) -> bool
     started | event::resets(word)
 }
 
-// What a controller that doesn't take a word answers: before the RESET the outputs are `shown`.
+// What a word that isn't taken is answered. Refusal 2 comes first, with the outputs as they are.
 fn untaken(shown: u16, word: u16) -> Answer
     ensures { λ r. ⌜ r ≡ untaken shown (unpacked word) ⌝ }
 {
