@@ -39,8 +39,8 @@ fit-determined b r s p q = p ∙ sym q
 pub sampled-determined : (b : Bay) (levels : ℕ) (r s : Bay) → sampled-reads.Post tt (b, (levels, tt)) r (b, (levels, tt)) → sampled-reads.Post tt (b, (levels, tt)) s (b, (levels, tt)) → r ≡ s
 sampled-determined b levels r s p q = p ∙ sym q
 
-pub present-determined : (b : Bay) (r s : Bool) → present-reads.Post tt (b, tt) r (b, tt) → present-reads.Post tt (b, tt) s (b, tt) → r ≡ s
-present-determined b r s p q = p ∙ sym q
+pub present-determined : (b : Bay) (hides : Bool) (r s : Bool) → present-reads.Post tt (b, (hides, tt)) r (b, (hides, tt)) → present-reads.Post tt (b, (hides, tt)) s (b, (hides, tt)) → r ≡ s
+present-determined b hides r s p q = p ∙ sym q
 
 pub in-use-determined : (b : Bay) (r s : Bool) → in-use-reads.Post tt (b, tt) r (b, tt) → in-use-reads.Post tt (b, tt) s (b, tt) → r ≡ s
 in-use-determined b r s p q = p ∙ sym q
@@ -48,14 +48,14 @@ in-use-determined b r s p q = p ∙ sym q
 pub inputs-determined : (b : Bay) (r s : Inputs) → inputs-reads.Post tt (b, tt) r (b, tt) → inputs-reads.Post tt (b, tt) s (b, tt) → r ≡ s
 inputs-determined b r s p q = p ∙ sym q
 
-pub moved-determined : (b : Bay) (ticks : ℕ) (i : Inputs) (r s : Bay) → moved-reads.Post tt (b, (ticks, (i, tt))) r (b, (ticks, (i, tt))) → moved-reads.Post tt (b, (ticks, (i, tt))) s (b, (ticks, (i, tt))) → r ≡ s
-moved-determined b ticks i r s p q = p ∙ sym q
+pub moved-determined : (b : Bay) (hides : Bool) (ticks : ℕ) (i : Inputs) (r s : Bay) → moved-reads.Post tt (b, (hides, (ticks, (i, tt)))) r (b, (hides, (ticks, (i, tt)))) → moved-reads.Post tt (b, (hides, (ticks, (i, tt)))) s (b, (hides, (ticks, (i, tt)))) → r ≡ s
+moved-determined b hides ticks i r s p q = p ∙ sym q
 
 pub rests-determined : (b : Bay) (r s : Bool) → rests-reads.Post tt (b, tt) r (b, tt) → rests-reads.Post tt (b, tt) s (b, tt) → r ≡ s
 rests-determined b r s p q = p .0 ∙ sym (q .0)
 
-pub bstr-determined : (b : Bay) (r s : ℕ) → bstr-reads.Post tt (b, tt) r (b, tt) → bstr-reads.Post tt (b, tt) s (b, tt) → r ≡ s
-bstr-determined b r s p q = p ∙ sym q
+pub bstr-determined : (b : Bay) (hides secured : Bool) (r s : ℕ) → bstr-reads.Post tt (b, (hides, (secured, tt))) r (b, (hides, (secured, tt))) → bstr-reads.Post tt (b, (hides, (secured, tt))) s (b, (hides, (secured, tt))) → r ≡ s
+bstr-determined b hides secured r s p q = p ∙ sym q
 
 pub bcer-determined : (b : Bay) (r s : ℕ) → bcer-reads.Post tt (b, tt) r (b, tt) → bcer-reads.Post tt (b, tt) s (b, tt) → r ≡ s
 bcer-determined b r s p q = p ∙ sym q
@@ -63,14 +63,14 @@ bcer-determined b r s p q = p ∙ sym q
 pub with-bstr-determined : (b : Bay) (v : ℕ) (r s : Bay) → with-bstr-reads.Post tt (b, (v, tt)) r (b, (v, tt)) → with-bstr-reads.Post tt (b, (v, tt)) s (b, (v, tt)) → r ≡ s
 with-bstr-determined b v r s p q = p ∙ sym q
 
-pub controlled-determined : (b : Bay) (c : Control) (g : Setting) (r s : Bay) → controlled-reads.Post tt (b, (c, (g, tt))) r (b, (c, (g, tt))) → controlled-reads.Post tt (b, (c, (g, tt))) s (b, (c, (g, tt))) → r ≡ s
-controlled-determined b c g r s p q = p ∙ sym q
+pub controlled-determined : (b : Bay) (hides : Bool) (c : Control) (g : Setting) (r s : Bay) → controlled-reads.Post tt (b, (hides, (c, (g, tt)))) r (b, (hides, (c, (g, tt)))) → controlled-reads.Post tt (b, (hides, (c, (g, tt)))) s (b, (hides, (c, (g, tt)))) → r ≡ s
+controlled-determined b hides c g r s p q = p ∙ sym q
 
 pub control-of-determined : (v : ℕ) (r s : Control) → control-of-reads.Post tt (v, tt) r (v, tt) → control-of-reads.Post tt (v, tt) s (v, tt) → r ≡ s
 control-of-determined v r s p q = p ∙ sym q
 
-pub outputs-determined : (b : Bay) (mode lit : Bool) (r s : ℕ) → outputs-reads.Post tt (b, (mode, (lit, tt))) r (b, (mode, (lit, tt))) → outputs-reads.Post tt (b, (mode, (lit, tt))) s (b, (mode, (lit, tt))) → r ≡ s
-outputs-determined b mode lit r s p q = p ∙ sym q
+pub outputs-determined : (b : Bay) (hides : Bool) (g : Setting) (lit : Bool) (r s : ℕ) → outputs-reads.Post tt (b, (hides, (g, (lit, tt)))) r (b, (hides, (g, (lit, tt)))) → outputs-reads.Post tt (b, (hides, (g, (lit, tt)))) s (b, (hides, (g, (lit, tt)))) → r ≡ s
+outputs-determined b hides g lit r s p q = p ∙ sym q
 
 pub interrupt-determined : (b : Bay) (r s : Bool) → interrupt-reads.Post tt (b, tt) r (b, tt) → interrupt-reads.Post tt (b, tt) s (b, tt) → r ≡ s
 interrupt-determined b r s p q = p ∙ sym q

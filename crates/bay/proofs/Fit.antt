@@ -5,17 +5,18 @@ use native.Mathlib.Omega.{arith}
 use mathlib.Core.Path.{_≡_, refl}
 use mathlib.Core.Bool.{Bool, true, false, not, cond, _&&_, and-eq-true-iff, and-false, false≢true}
 use mathlib.Core.Logic.{_↔_}
-use lib.Dec.{leb, eqb}
+use lib.Dec.{leb}
 use borrow.Author.Tests.{lt-ltb, le-leb, ltb-true, leb-true}
 use Rattle.bay.specs.Record.{N1394, NUSB, NREMREQ, EMPTY, INSERTED, REMOVAL-REQUESTED, REMOVAL-ALLOWED, MOST-PULSE, count, present, emptyBay, resetBay, bayFit}
 use Rattle.bay.specs.Debounce.{sampledBay}
-use Rattle.bay.specs.Moves.{input, leaves, inUse, inserts, stateAfter, movedBay, tickedBay}
+use Rattle.bay.specs.Moves.{input, leaves, inUse, inserts, atOnce, stateAfter, movedTo, movedBay, tickedBay}
 use Rattle.bay.specs.Registers.{bstrWritten, asks, finds, requestWritten, stateWritten, pulseWritten, controlledBay}
 use Rattle.bay.specs.declared.Bay.{Bay}
 use Rattle.bay.specs.declared.Control.{Control}
 use Rattle.bay.specs.declared.Setting.{Setting}
 use Rattle.bay.proofs.Taut.{pick}
 use Rattle.bay.proofs.OneStep.{counts-on, restarts}
+use Rattle.bay.proofs.Ticks.{waitNow}
 
 -- The parts of fitness, in the paper's numbers.
 pub record Fits (b : Bay) : Type 0 where
@@ -76,16 +77,18 @@ moves-to-state false false true x s f h = omega arith
 moves-to-state false false false x s f h = h
 
 -- So is the state after a TICK, and after a write.
-state-after-fits : (ticks : ℕ) (b : Bay) (gone come press : Bool) → b .state ≤ REMOVAL-ALLOWED → stateAfter ticks b gone come press ≤ REMOVAL-ALLOWED
+state-after-fits :
+    (hides : Bool) (ticks : ℕ) (b : Bay) (gone come press : Bool) → b .state ≤ REMOVAL-ALLOWED → stateAfter hides ticks b gone come press ≤ REMOVAL-ALLOWED
 unfolding stateAfter
-state-after-fits ticks b gone come press h =
-    moves-to-state gone (inserts ticks b come) (press && b .control .«remreq_en» && not (b .«remreq_sts») && inUse b) EMPTY (b .state)
+state-after-fits hides ticks b gone come press h =
+    moves-to-state gone (inserts hides ticks b come) (press && b .control .«remreq_en» && not (b .«remreq_sts») && inUse b) EMPTY (b .state)
     (λ _. omega arith) h
 
-state-written-fits : (ticks : ℕ) (c : Control) (device : Bool) (b : Bay) → b .state ≤ REMOVAL-ALLOWED → stateWritten ticks c device b ≤ REMOVAL-ALLOWED
+state-written-fits :
+    (hides : Bool) (ticks : ℕ) (c : Control) (device : Bool) (b : Bay) → b .state ≤ REMOVAL-ALLOWED → stateWritten hides ticks c device b ≤ REMOVAL-ALLOWED
 unfolding stateWritten
-state-written-fits ticks c device b h =
-    moves-to-state (asks c && device) (finds c device b && eqb ticks 0)
+state-written-fits hides ticks c device b h =
+    moves-to-state (asks c && device) (finds c device b && atOnce hides ticks)
     (c .«remreq_en» && not (b .control .«remreq_en») && b .«remreq_sts» && inUse b) (c .request) (b .state)
     (λ a. asked-is-state c (and-eq-true-iff (asks c) device .0 a .0)) h
 
@@ -113,17 +116,17 @@ sampled-fit levels b h =
       pulsed = f .pulsed;
     }
 
-pub ticked-fit : (s : Setting) (b : Bay) → bayFit b ≡ true → bayFit (tickedBay s b) ≡ true
-unfolding tickedBay movedBay
-ticked-fit s b h =
+pub ticked-fit : (hides : Bool) (s : Setting) (b : Bay) → bayFit b ≡ true → bayFit (tickedBay hides s b) ≡ true
+unfolding tickedBay movedBay movedTo
+ticked-fit hides s b h =
     let f = fit-parts b .0 h in
-    fit-parts (tickedBay s b) .1
+    fit-parts (tickedBay hides s b) .1
     record {
       n1394 = counts-on _ _ _ _ (omega arith) (f .n1394);
       nusb = counts-on _ _ _ _ (omega arith) (f .nusb);
       nremreq = counts-on _ _ _ _ (omega arith) (f .nremreq);
-      in-state = state-after-fits _ b _ _ _ (f .in-state);
-      asked = pick (λ r. r ≤ REMOVAL-ALLOWED) {m = 0} (leaves b (input b N1394) (input b NUSB)) (λ _. omega arith) (λ _. f .asked);
+      in-state = state-after-fits _ _ b _ _ _ (f .in-state);
+      asked = pick (λ r. r ≤ REMOVAL-ALLOWED) {m = 0} (leaves hides b (waitNow hides s b) (input b N1394) (input b NUSB)) (λ _. omega arith) (λ _. f .asked);
       pulsed = omega arith;
     }
 
@@ -131,17 +134,18 @@ pub bstr-written-fit : (v : ℕ) (b : Bay) → bayFit b ≡ true → bayFit (bst
 unfolding bayFit bstrWritten
 bstr-written-fit v b h = h
 
--- A pulse is as long as LETR's ticks at most, so these are bounded too.
-pub controlled-fit : (c : Control) (s : Setting) (b : Bay) → s .«pulse_ticks» ≤ MOST-PULSE → bayFit b ≡ true → bayFit (controlledBay c s b) ≡ true
+-- A pulse is as long as the ticks given at most, so these are bounded too.
+pub controlled-fit :
+    (hides : Bool) (c : Control) (s : Setting) (b : Bay) → s .«pulse_ticks» ≤ MOST-PULSE → bayFit b ≡ true → bayFit (controlledBay hides c s b) ≡ true
 unfolding controlledBay requestWritten pulseWritten
-controlled-fit c s b l h =
+controlled-fit hides c s b l h =
     let f = fit-parts b .0 h in
-    fit-parts (controlledBay c s b) .1
+    fit-parts (controlledBay hides c s b) .1
     record {
       n1394 = f .n1394;
       nusb = f .nusb;
       nremreq = f .nremreq;
-      in-state = state-written-fits _ c (present b) b (f .in-state);
+      in-state = state-written-fits _ _ c (present hides b) b (f .in-state);
       asked = pick (λ r. r ≤ REMOVAL-ALLOWED) (asks c) (asked-is-state c) (λ _. f .asked);
-      pulsed = pick (λ p. p ≤ MOST-PULSE) (s .«lock_mode» && b .control .«lock_ctl» && not (c .«lock_ctl»)) (λ _. l) (λ _. f .pulsed);
+      pulsed = pick (λ p. p ≤ MOST-PULSE) (s .pulsed && b .control .«lock_ctl» && not (c .«lock_ctl»)) (λ _. l) (λ _. f .pulsed);
     }

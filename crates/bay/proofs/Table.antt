@@ -9,7 +9,7 @@ use lib.Dec.{eqb, ltb, leb}
 use borrow.Author.Tests.{eqb-true, eq-eqb}
 use Rattle.bits.specs.Bits.{bit}
 use Rattle.bay.specs.Record.{NREMREQ, acceptedLevel, present}
-use Rattle.bay.specs.Moves.{inUse, inserts, stateAfter, movedBay, tickedBay}
+use Rattle.bay.specs.Moves.{inUse, inserts, stateAfter, movedTo, movedBay, tickedBay}
 use Rattle.bay.specs.Registers.{controlOf, asks, finds, stateWritten, controlledBay}
 use Rattle.bay.specs.Table.{Table, entry, gone, noticed, come, seated, pressOver, press, tickRows, tickTable, writeRows, writeTable}
 use Rattle.bay.specs.declared.Bay.{Bay}
@@ -23,41 +23,45 @@ exactly state to test e = (λ h. sym e ∙ eq-eqb state to h, λ t. eqb-true sta
 
 -- ---- a TICK
 
--- The state after it, by the state before and nine tests: a device before and after, DEVSTSCHG_EN, 42h 0, a wait of 1, nREMREQ as
--- accepted before and after, REMREQ_EN and REMREQ_STS. And the table by the same tests.
-abbrev stateBy : ℕ → Bool → Bool → Bool → Bool → Bool → Bool → Bool → Bool → Bool → ℕ
-stateBy from p q en z w l m req sts =
-    cond (p && not q) 0 (cond (cond (not p && q && en) z w) 1 (cond (l && not m && q && req && not sts && (eqb from 1 || eqb from 2)) 3 from))
+-- The state after it, by the state before and ten tests: whether a wait hides the device, a device before and after, DEVSTSCHG_EN, no
+-- ticks to wait, a wait of 1, nREMREQ as accepted before and after, REMREQ_EN and REMREQ_STS. And the table by the same tests.
+abbrev stateBy : ℕ → Bool → Bool → Bool → Bool → Bool → Bool → Bool → Bool → Bool → Bool → ℕ
+stateBy from h p q en z w l m req sts =
+    cond (p && not q) 0
+    (cond (cond (not p && q && en) (h || z) (not h && w)) 1 (cond (l && not m && q && req && not sts && (eqb from 1 || eqb from 2)) 3 from))
 
-abbrev tableBy : Bool → Bool → Bool → Bool → Bool → Bool → Bool → Bool → Bool → Table
-tableBy p q en z w l m req sts =
+abbrev tableBy : Bool → Bool → Bool → Bool → Bool → Bool → Bool → Bool → Bool → Bool → Table
+tableBy h p q en z w l m req sts =
     let gone = p && not q in
     let noticed = not p && q && en in
-    let come = noticed && z in
-    let seated = not gone && not noticed && w in
+    let come = noticed && (h || z) in
+    let seated = not gone && not noticed && (not h && w) in
     let press = not gone && not come && not seated && (l && not m && q) && req && not sts in
     tickRows gone (come || seated) press (not gone && not come && not seated && not press)
 
 -- The entry is the test for that state.
-abbrev tickEntry : ℕ → ℕ → Fun 9
-tickEntry from to p q en z w l m req sts = Bool·beq (eqb (stateBy from p q en z w l m req sts) to) (entry (tableBy p q en z w l m req sts) from to)
+abbrev tickEntry : ℕ → ℕ → Fun 10
+tickEntry from to h p q en z w l m req sts =
+    Bool·beq (eqb (stateBy from h p q en z w l m req sts) to) (entry (tableBy h p q en z w l m req sts) from to)
 
 -- That is the state after it, in every bay.
 tick-state :
-    (s : Setting) (b : Bay)
-    → tickedBay s b .state
-    ≡ stateBy (b .state) (present b) (present (tickedBay s b)) (b .control .«devstschg_en») (eqb (s .«wait_ticks») 0) (eqb (b .wait) 1) (acceptedLevel b NREMREQ) (acceptedLevel (tickedBay s b) NREMREQ) (b .control .«remreq_en») (b .«remreq_sts»)
-unfolding tickedBay movedBay stateAfter inserts inUse
-tick-state s b = rw (← (heeded-after s b), present-after s b)
+    (hides : Bool) (s : Setting) (b : Bay)
+    → tickedBay hides s b .state
+    ≡ stateBy (b .state) hides (present hides b) (present hides (tickedBay hides s b)) (b .control .«devstschg_en») (eqb (s .«wait_ticks») 0) (eqb (b .wait) 1) (acceptedLevel b NREMREQ) (acceptedLevel (tickedBay hides s b) NREMREQ) (b .control .«remreq_en») (b .«remreq_sts»)
+unfolding tickedBay movedBay movedTo stateAfter inserts inUse
+tick-state hides s b = rw (← (heeded-after hides s b), present-after hides s b)
 
 -- A TICK makes at most one move, out of the state before it, in every bay: Empty where the device is gone, else Inserted where one has
 -- come or is seated, else Removal Requested where a press finds the bay in use; and else none.
 pub one-move :
-    (s : Setting) (b : Bay)
-    → tickedBay s b .state ≡ cond (gone s b) 0 (cond (come s b || seated s b) 1 (cond (press s b && (eqb (b .state) 1 || eqb (b .state) 2)) 3 (b .state)))
-one-move s b =
-    tick-state s b
-    ∙ go (gone s b) (noticed s b) (eqb (s .«wait_ticks») 0) (eqb (b .wait) 1) (pressOver b (tickedBay s b)) (b .control .«remreq_en») (not (b .«remreq_sts»)) (eqb (b .state) 1 || eqb (b .state) 2)
+    (hides : Bool) (s : Setting) (b : Bay)
+    → tickedBay hides s b .state
+    ≡ cond (gone hides s b) 0
+    (cond (come hides s b || seated hides s b) 1 (cond (press hides s b && (eqb (b .state) 1 || eqb (b .state) 2)) 3 (b .state)))
+one-move hides s b =
+    tick-state hides s b
+    ∙ go (gone hides s b) (noticed hides s b) (hides || eqb (s .«wait_ticks») 0) (not hides && eqb (b .wait) 1) (pressOver hides b (tickedBay hides s b)) (b .control .«remreq_en») (not (b .«remreq_sts»)) (eqb (b .state) 1 || eqb (b .state) 2)
   where
     go :
         (g n z w o req clear used : Bool)
@@ -71,21 +75,22 @@ one-move s b =
 
 -- For every bay state from and to: a TICK brings a bay from the one to the other exactly when the table says.
 pub tick-table :
-    (s : Setting) (b : Bay) → b .state < 5 → (to : ℕ) → to < 5 → (tickedBay s b .state ≡ to) ↔ (entry (tickTable s b) (b .state) to ≡ true)
+    (hides : Bool) (s : Setting) (b : Bay) → b .state < 5 → (to : ℕ) → to < 5
+    → (tickedBay hides s b .state ≡ to) ↔ (entry (tickTable hides s b) (b .state) to ≡ true)
 unfolding tickTable
-tick-table s b h to k =
+tick-table hides s b h to k =
     exactly _ to _
-    (rw (tick-state s b)
+    (rw (tick-state hides s b)
     (same _ _
-    (taut 9 (tickEntry (b .state) to)
-    (below 5 (λ to. All 9 (tickEntry (b .state) to)) (below 5 (λ from. Below 5 (λ to. All 9 (tickEntry from to))) refl (b .state) h) to k)
-    (present b) (present (tickedBay s b)) (b .control .«devstschg_en») (eqb (s .«wait_ticks») 0) (eqb (b .wait) 1) (acceptedLevel b NREMREQ)
-    (acceptedLevel (tickedBay s b) NREMREQ) (b .control .«remreq_en») (b .«remreq_sts»))))
+    (taut 10 (tickEntry (b .state) to)
+    (below 5 (λ to. All 10 (tickEntry (b .state) to)) (below 5 (λ from. Below 5 (λ to. All 10 (tickEntry from to))) refl (b .state) h) to k)
+    hides (present hides b) (present hides (tickedBay hides s b)) (b .control .«devstschg_en») (eqb (s .«wait_ticks») 0) (eqb (b .wait) 1)
+    (acceptedLevel b NREMREQ) (acceptedLevel (tickedBay hides s b) NREMREQ) (b .control .«remreq_en») (b .«remreq_sts»))))
 
 -- ---- a write of BCER
 
--- The state after it, by the request, the state before and seven tests: a device, DEVSTSCHG_EN as written and before, 42h 0, REMREQ_EN as
--- written and before, and REMREQ_STS. And the table by the same tests.
+-- The state after it, by the request, the state before and seven tests: a device, DEVSTSCHG_EN as written and before, a device Inserted at
+-- once, REMREQ_EN as written and before, and REMREQ_STS. And the table by the same tests.
 abbrev writtenBy : ℕ → ℕ → Bool → Bool → Bool → Bool → Bool → Bool → Bool → ℕ
 writtenBy r from p en en₀ z req req₀ sts =
     cond (ltb 0 r && leb r 4 && p) r
@@ -101,14 +106,14 @@ writeEntry r from to p en en₀ z req req₀ sts = Bool·beq (eqb (writtenBy r f
 
 -- For every bay state from and to: a write of v brings a bay from the one to the other exactly when the table says.
 pub write-table :
-    (v : ℕ) (s : Setting) (b : Bay) → b .state < 5 → (to : ℕ) → to < 5
-    → (controlledBay (controlOf v) s b .state ≡ to) ↔ (entry (writeTable v s b) (b .state) to ≡ true)
+    (hides : Bool) (v : ℕ) (s : Setting) (b : Bay) → b .state < 5 → (to : ℕ) → to < 5
+    → (controlledBay hides (controlOf v) s b .state ≡ to) ↔ (entry (writeTable hides v s b) (b .state) to ≡ true)
 unfolding writeTable controlledBay controlOf stateWritten finds asks inUse
-write-table v s b h to k =
+write-table hides v s b h to k =
     exactly _ to _
     (same _ _
     (taut 7 (writeEntry (v / 16 % 8) (b .state) to)
     (below 5 (λ to. All 7 (writeEntry (v / 16 % 8) (b .state) to))
     (below 5 (λ from. Below 5 (λ to. All 7 (writeEntry (v / 16 % 8) from to)))
     (below 8 (λ r. Below 5 (λ from. Below 5 (λ to. All 7 (writeEntry r from to)))) refl (v / 16 % 8) (omega arith)) (b .state) h) to k)
-    (present b) (bit 2 v) (b .control .«devstschg_en») (eqb (s .«wait_ticks») 0) (bit 3 v) (b .control .«remreq_en») (b .«remreq_sts»)))
+    (present hides b) (bit 2 v) (b .control .«devstschg_en») (hides || eqb (s .«wait_ticks») 0) (bit 3 v) (b .control .«remreq_en») (b .«remreq_sts»)))

@@ -1,5 +1,6 @@
 -- What happens to a bay from one RESET to the next, while it is open, and what each of its inputs sees of that.
 use Prim.Native.Nat.{ℕ, _-_}
+use mathlib.Core.Bool.{Bool}
 use mathlib.Core.List.{List, [], _∷_, _++_}
 use Rattle.bits.specs.Bits.{bit}
 use Rattle.bay.specs.Record.{level, acceptedLevel, count}
@@ -11,23 +12,23 @@ use Rattle.bay.specs.declared.Bay.{Bay}
 use Rattle.bay.specs.declared.Control.{Control}
 use Rattle.bay.specs.declared.Setting.{Setting}
 
--- A TICK, PINS with its four levels, a write of BSTR, and a write of BCER; a TICK and a write of BCER each with what LOCK_MODE, LETR and
--- 42h are then.
+-- A TICK, PINS with its four levels, a write of BSTR, and a write of BCER; a TICK and a write of BCER each with what the shared registers
+-- make of the rules then. Whether a wait hides the device stays from one RESET to the next.
 pub data Happens : Type 0 where
   tick : Setting → Happens
   pins : ℕ → Happens
   bstr : ℕ → Happens
   bcer : Control → Setting → Happens
 
-unfoldable pub happens : Happens → Bay → Bay
-happens (tick s) b = tickedBay s b
-happens (pins levels) b = sampledBay levels b
-happens (bstr v) b = bstrWritten v b
-happens (bcer c s) b = controlledBay c s b
+unfoldable pub happens : Bool → Happens → Bay → Bay
+happens hides (tick s) b = tickedBay hides s b
+happens hides (pins levels) b = sampledBay levels b
+happens hides (bstr v) b = bstrWritten v b
+happens hides (bcer c s) b = controlledBay hides c s b
 
-unfoldable pub happensAll : List Happens → Bay → Bay
-happensAll [] b = b
-happensAll (x ∷ xs) b = happensAll xs (happens x b)
+unfoldable pub happensAll : Bool → List Happens → Bay → Bay
+happensAll hides [] b = b
+happensAll hides (x ∷ xs) b = happensAll hides xs (happens hides x b)
 
 -- Input i of a bay as it stands.
 abbrev pub line : Bay → ℕ → Line

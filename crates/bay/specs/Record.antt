@@ -32,12 +32,27 @@ acceptedLevel b i = getD (b .accepted) i false
 abbrev pub count : Bay → ℕ → ℕ
 count b i = getD (b .counts) i 0
 
--- Present means accepted 1394 or USB.
+-- Contact means accepted 1394 or USB.
 abbrev pub anyAsserted : Bool → Bool → Bool
 anyAsserted n1394 nusb = not n1394 || not nusb
 
-unfoldable pub present : Bay → Bool
-present b = anyAsserted (acceptedLevel b N1394) (acceptedLevel b NUSB)
+unfoldable pub contact : Bay → Bool
+contact b = anyAsserted (acceptedLevel b N1394) (acceptedLevel b NUSB)
+
+-- A wait above 0 runs. In one kind of controller it hides the device, and in the other not (document 03, "Bay moves").
+abbrev pub runs : ℕ → Bool
+runs wait = ltb 0 wait
+
+abbrev pub hidden : Bool → ℕ → Bool
+hidden hides wait = hides && runs wait
+
+-- Present means contact, of a device that isn't hidden ..
+unfoldable pub present : Bool → Bay → Bool
+present hides b = not (hidden hides (b .wait)) && contact b
+
+-- .. and so a presence bit shows its contact.
+abbrev pub shown : Bool → ℕ → Bool → Bool
+shown hides wait accepted = not (hidden hides wait) && not accepted
 
 -- Bay states: 0 Empty, 1 Inserted, 2 Enabled, 3 Removal Requested, 4 Removal Allowed.
 abbrev pub EMPTY : ℕ

@@ -3,17 +3,18 @@ use Prim.Native.Nat.{ℕ, _+_, _*_, _/_, _%_}
 use mathlib.Core.Bool.{Bool, not, cond, _&&_, _||_}
 use lib.Dec.{eqb, ltb, leb}
 use Rattle.bits.specs.Bits.{bit, put}
-use Rattle.bay.specs.Record.{N1394, NUSB, acceptedLevel, present, EMPTY, INSERTED, REMOVAL-REQUESTED, REMOVAL-ALLOWED, withStatus}
-use Rattle.bay.specs.Moves.{inUse, begun}
+use Rattle.bay.specs.Record.{N1394, NUSB, acceptedLevel, shown, present, EMPTY, INSERTED, REMOVAL-REQUESTED, REMOVAL-ALLOWED, withStatus}
+use Rattle.bay.specs.Moves.{inUse, begun, atOnce}
 use Rattle.bay.specs.declared.Bay.{Bay}
 use Rattle.bay.specs.declared.Control.{Control}
 use Rattle.bay.specs.declared.Setting.{Setting}
 
--- BSTR: bit 7 inverse of nSL as last sampled; 6-4 bay state; 3 REMREQ_STS; 2 DEVSTSCHG; 1 and 0 accepted 1394 and USB presence.
-unfoldable pub bstrOf : Bay → ℕ
-bstrOf b =
-    put 7 (not (b .«n_sl»)) + b .state % 8 * 16 + put 3 (b .«remreq_sts») + put 2 (b .devstschg)
-    + put 1 (not (acceptedLevel b N1394)) + put 0 (not (acceptedLevel b NUSB))
+-- BSTR: bit 7 inverse of nSL as last sampled, where the security lock shows; 6-4 bay state; 3 REMREQ_STS; 2 DEVSTSCHG; 1 and 0 accepted
+-- 1394 and USB presence, of a device that isn't hidden.
+unfoldable pub bstrOf : Bool → Bool → Bay → ℕ
+bstrOf hides secured b =
+    put 7 (secured && not (b .«n_sl»)) + b .state % 8 * 16 + put 3 (b .«remreq_sts») + put 2 (b .devstschg)
+    + put 1 (shown hides (b .wait) (acceptedLevel b N1394)) + put 0 (shown hides (b .wait) (acceptedLevel b NUSB))
 
 -- BCER: 7 LOCK_CTL, 6-4 stored request, 3 REMREQ_EN, 2 DEVSTSCHG_EN, 1 REMEVTWAK_EN, 0 PWR_CTL.
 unfoldable pub bcerOf : Bay → ℕ
@@ -61,31 +62,33 @@ unfoldable pub finds : Control → Bool → Bay → Bool
 finds c device b = c .«devstschg_en» && not (b .control .«devstschg_en») && eqb (b .state) EMPTY && device
 
 -- A write makes at most one move, the first that applies: request 1-4 with a device present, to that state; DEVSTSCHG_EN from 0
--- to 1 in Empty with a device, to Inserted if 42h is 0; REMREQ_EN from 0 to 1 with REMREQ_STS set in Inserted or Enabled, to Removal
--- Requested.
-unfoldable pub stateWritten : ℕ → Control → Bool → Bay → ℕ
-stateWritten ticks c device b =
+-- to 1 in Empty with a device, to Inserted, unless it must wait; REMREQ_EN from 0 to 1 with REMREQ_STS set in Inserted or Enabled, to
+-- Removal Requested.
+unfoldable pub stateWritten : Bool → ℕ → Control → Bool → Bay → ℕ
+stateWritten hides ticks c device b =
     cond (asks c && device) (c .request)
-    (cond (finds c device b && eqb ticks 0) INSERTED
+    (cond (finds c device b && atOnce hides ticks) INSERTED
     (cond (c .«remreq_en» && not (b .control .«remreq_en») && b .«remreq_sts» && inUse b) REMOVAL-REQUESTED (b .state)))
 
--- DEVSTSCHG_EN written 0, or request 1-4 with a device present, ends a wait; else DEVSTSCHG_EN from 0 to 1 in Empty with a device begins
--- one (document 02, request 6).
-unfoldable pub waitWritten : ℕ → Control → Bool → Bay → ℕ
-waitWritten ticks c device b = cond (not (c .«devstschg_en») || asks c && device) 0 (cond (finds c device b) (begun ticks (b .wait)) (b .wait))
+-- A wait that hides the device goes on whatever is written (document 03, "Bay moves"). Else DEVSTSCHG_EN written 0, or request 1-4 with a
+-- device present, ends it, and DEVSTSCHG_EN from 0 to 1 in Empty with a device begins one (document 02, request 6).
+unfoldable pub waitWritten : Bool → ℕ → Control → Bool → Bay → ℕ
+waitWritten hides ticks c device b =
+    cond hides (b .wait)
+    (cond (not (c .«devstschg_en») || asks c && device) 0 (cond (finds c device b) (begun ticks (b .wait)) (b .wait)))
 
--- In LOCK_MODE 1 only, LOCK_CTL written from 1 to 0 starts a pulse with LETR's ticks, and another restarts it.
+-- Where the lock is pulsed, LOCK_CTL written from 1 to 0 starts a pulse with so many ticks, and another restarts it.
 unfoldable pub pulseWritten : Control → Bool → ℕ → Bay → ℕ
-pulseWritten c mode ticks b = cond (mode && b .control .«lock_ctl» && not (c .«lock_ctl»)) ticks (b .pulse)
+pulseWritten c pulsed ticks b = cond (pulsed && b .control .«lock_ctl» && not (c .«lock_ctl»)) ticks (b .pulse)
 
--- A write of BCER's fields, in a LOCK_MODE and with the ticks of LETR and of 42h.
-unfoldable pub controlledBay : Control → Setting → Bay → Bay
-controlledBay c s b =
+-- A write of BCER's fields.
+unfoldable pub controlledBay : Bool → Control → Setting → Bay → Bay
+controlledBay hides c s b =
     withStatus
-    (stateWritten (s .«wait_ticks») c (present b) b)
+    (stateWritten hides (s .«wait_ticks») c (present hides b) b)
     (b .«remreq_sts»)
     (b .devstschg)
-    (controlWritten c (present b) (b .control))
-    (pulseWritten c (s .«lock_mode») (s .«pulse_ticks») b)
-    (waitWritten (s .«wait_ticks») c (present b) b)
+    (controlWritten c (present hides b) (b .control))
+    (pulseWritten c (s .pulsed) (s .«pulse_ticks») b)
+    (waitWritten hides (s .«wait_ticks») c (present hides b) b)
     b

@@ -25,32 +25,34 @@ never = false
 -- ---- a TICK
 
 -- The device leaves.
-abbrev pub gone : Setting → Bay → Bool
-gone s b = present b && not (present (tickedBay s b))
+abbrev pub gone : Bool → Setting → Bay → Bool
+gone hides s b = present hides b && not (present hides (tickedBay hides s b))
 
 -- A device arrives with DEVSTSCHG_EN set: the bay takes notice of it ..
-abbrev pub noticed : Setting → Bay → Bool
-noticed s b = not (present b) && present (tickedBay s b) && b .control .«devstschg_en»
+abbrev pub noticed : Bool → Setting → Bay → Bool
+noticed hides s b = not (present hides b) && present hides (tickedBay hides s b) && b .control .«devstschg_en»
 
--- .. at once, where 42h is 0.
-abbrev pub come : Setting → Bay → Bool
-come s b = noticed s b && eqb (s .«wait_ticks») 0
+-- .. at once, where it was hidden before or needn't wait.
+abbrev pub come : Bool → Setting → Bay → Bool
+come hides s b = noticed hides s b && (hides || eqb (s .«wait_ticks») 0)
 
--- A wait falls to 0, and the device neither leaves nor comes in this TICK.
-abbrev pub seated : Setting → Bay → Bool
-seated s b = not (gone s b) && not (noticed s b) && eqb (b .wait) 1
+-- A wait that hides nothing falls to 0, and the device neither leaves nor comes in this TICK.
+abbrev pub seated : Bool → Setting → Bay → Bool
+seated hides s b = not (gone hides s b) && not (noticed hides s b) && (not hides && eqb (b .wait) 1)
 
 -- The button is pressed over a device: nREMREQ as accepted goes from 1 to 0, and a device is present afterwards.
-abbrev pub pressOver : Bay → Bay → Bool
-pressOver before after = acceptedLevel before NREMREQ && not (acceptedLevel after NREMREQ) && present after
+abbrev pub pressOver : Bool → Bay → Bay → Bool
+pressOver hides before after = acceptedLevel before NREMREQ && not (acceptedLevel after NREMREQ) && present hides after
 
 -- None of these, and a press over a device with REMREQ_EN set and REMREQ_STS clear.
-abbrev pub press : Setting → Bay → Bool
-press s b = not (gone s b) && not (come s b) && not (seated s b) && pressOver b (tickedBay s b) && b .control .«remreq_en» && not (b .«remreq_sts»)
+abbrev pub press : Bool → Setting → Bay → Bool
+press hides s b =
+    not (gone hides s b) && not (come hides s b) && not (seated hides s b) && pressOver hides b (tickedBay hides s b)
+    && b .control .«remreq_en» && not (b .«remreq_sts»)
 
 -- Nor that.
-abbrev pub calm : Setting → Bay → Bool
-calm s b = not (gone s b) && not (come s b) && not (seated s b) && not (press s b)
+abbrev pub calm : Bool → Setting → Bay → Bool
+calm hides s b = not (gone hides s b) && not (come hides s b) && not (seated hides s b) && not (press hides s b)
 
 -- G gone, C come or seated, P press, N none of these.
 abbrev pub tickRows : Bool → Bool → Bool → Bool → Table
@@ -62,26 +64,27 @@ tickRows G C P N =
     ∷ (G ∷ C ∷ never ∷ never ∷ (P || N) ∷ [])
     ∷ []
 
-unfoldable pub tickTable : Setting → Bay → Table
-tickTable s b = tickRows (gone s b) (come s b || seated s b) (press s b) (calm s b)
+unfoldable pub tickTable : Bool → Setting → Bay → Table
+tickTable hides s b = tickRows (gone hides s b) (come hides s b || seated hides s b) (press hides s b) (calm hides s b)
 
 -- ---- a write of BCER
 
 -- It asks for that state, with a device present: bits 6-4.
-abbrev pub asksFor : ℕ → Bay → ℕ → Bool
-asksFor v b state = present b && eqb (v / 16 % 8) state
+abbrev pub asksFor : Bool → ℕ → Bay → ℕ → Bool
+asksFor hides v b state = present hides b && eqb (v / 16 % 8) state
 
 -- It asks for none of 1 to 4, or there is no device.
-abbrev pub asksNothing : ℕ → Bay → Bool
-asksNothing v b = not (asksFor v b 1) && not (asksFor v b 2) && not (asksFor v b 3) && not (asksFor v b 4)
+abbrev pub asksNothing : Bool → ℕ → Bay → Bool
+asksNothing hides v b = not (asksFor hides v b 1) && not (asksFor hides v b 2) && not (asksFor hides v b 3) && not (asksFor hides v b 4)
 
--- It asks for nothing and brings DEVSTSCHG_EN, bit 2, from 0 to 1 with a device present, which needn't wait: 42h is 0.
-abbrev pub finds : ℕ → Setting → Bay → Bool
-finds v s b = asksNothing v b && bit 2 v && not (b .control .«devstschg_en») && present b && eqb (s .«wait_ticks») 0
+-- It asks for nothing and brings DEVSTSCHG_EN, bit 2, from 0 to 1 with a device present, which was hidden before or needn't wait.
+abbrev pub finds : Bool → ℕ → Setting → Bay → Bool
+finds hides v s b =
+    asksNothing hides v b && bit 2 v && not (b .control .«devstschg_en») && present hides b && (hides || eqb (s .«wait_ticks») 0)
 
 -- It asks for nothing and brings REMREQ_EN, bit 3, from 0 to 1 with REMREQ_STS set.
-abbrev pub recalls : ℕ → Bay → Bool
-recalls v b = asksNothing v b && bit 3 v && not (b .control .«remreq_en») && b .«remreq_sts»
+abbrev pub recalls : Bool → ℕ → Bay → Bool
+recalls hides v b = asksNothing hides v b && bit 3 v && not (b .control .«remreq_en») && b .«remreq_sts»
 
 -- A asks for a state, N asks for nothing, F finds a device, R recalls a press.
 abbrev pub writeRows : (ℕ → Bool) → Bool → Bool → Bool → Table
@@ -93,5 +96,5 @@ writeRows A N F R =
     ∷ (never ∷ A 1 ∷ A 2 ∷ A 3 ∷ (A 4 || N) ∷ [])
     ∷ []
 
-unfoldable pub writeTable : ℕ → Setting → Bay → Table
-writeTable v s b = writeRows (asksFor v b) (asksNothing v b) (finds v s b) (recalls v b)
+unfoldable pub writeTable : Bool → ℕ → Setting → Bay → Table
+writeTable hides v s b = writeRows (asksFor hides v b) (asksNothing hides v b) (finds hides v s b) (recalls hides v b)

@@ -1,5 +1,7 @@
 // One bay of a dock (document 01, "Bay moves", and what "Registers" says of a bay): its record and constants,
-// debounce, moves, its two registers and its outputs. It knows nothing of the bus, nor of the other bay.
+// debounce, moves, its two registers and its outputs. It knows nothing of the bus, of the other bay, nor of the kind
+// of its controller: where kinds differ it takes numbers and bools (document 03, "Bay moves"). One of these, whether a
+// wait hides the device, stays from one RESET to the next, and so is no part of a Setting.
 mod debounce;
 mod moves;
 mod outputs;
@@ -20,7 +22,7 @@ pub struct Bay {
     pub state: u8,
     // BCER.
     pub control: Control,
-    // For how many ticks more the lock pin is held low.
+    // For how many ticks more the lock pin gives a pulse.
     pub pulse: u8,
     // For how many ticks more a device seats before the bay is Inserted.
     pub wait: u8,
@@ -66,12 +68,13 @@ pub struct Control {
     pub pwr_ctl: bool,
 }
 
-// What the registers that the bays share, and the straps, make of a bay's rules.
+// What the registers that the bays share, the straps and the kind of the controller make of a bay's rules.
 pub struct Setting {
-    pub lock_mode: bool,
-    // LETR's ticks, for which a pulse runs.
+    // The lock pin gives a pulse, high or low, of so many ticks as LOCK_CTL falls; else it is LOCK_CTL.
+    pub pulsed: bool,
+    pub pulse_high: bool,
     pub pulse_ticks: u8,
-    // 42h, the ticks for which a device seats.
+    // For so many ticks a device seats that arrives.
     pub wait_ticks: u8,
 }
 

@@ -1,9 +1,10 @@
-// What a TICK makes of a bay (document 01, "Bay moves"): at most one move, presence first.
+// What a TICK makes of a bay (document 01, "Bay moves"; document 03, "Bay moves"): the wait goes on, and then at most one
+// move, presence first.
 ghost use mathlib.Core.Path.{_≡_};
-ghost use mathlib.Core.Bool.{true, false};
+ghost use mathlib.Core.Bool.{Bool, true, false};
 ghost use Prim.Native.Nat.{_-_};
-ghost use Rattle.bay.specs.Record.{present as Record·present};
-ghost use Rattle.bay.specs.Moves.{inputsOf, leaves, movedBay, tickedBay, rests, begun, waitAfter, inserts, stateAfter, controlAfter, inUse};
+ghost use Rattle.bay.specs.Record.{contact as Record·contact, hidden, shown, present as Record·present};
+ghost use Rattle.bay.specs.Moves.{inputsOf, contactAfter, leaves, changes, movedBay, movedTo, tickedBay, rests, begins, begun, waitAfter, inserts, atOnce, stateAfter, controlAfter, inUse};
 ghost use Rattle.bay.specs.declared.Setting.{Setting};
 use crate::Bay;
 use crate::Control;
@@ -11,13 +12,41 @@ use crate::Inputs;
 use crate::debounce::debounced;
 use crate::debounce::ticks_for;
 
+// A device that seats is hidden, where a wait does that.
+pub(crate) fn hidden(hides: bool, wait: u8) -> bool
+    ensures { λ r. ⌜ r ≡ hidden hides wait ⌝ }
+{
+    hides & (0 < wait)
+}
+
+// A presence bit shows its contact, unless the device is hidden.
+pub(crate) fn shown(hides: bool, wait: u8, accepted: bool) -> bool
+    ensures { λ r. ⌜ r ≡ shown hides wait accepted ⌝ }
+{
+    !hidden(hides, wait) & !accepted
+}
+
+// A device that comes, or that a write finds, is Inserted at once.
+pub(crate) fn at_once(hides: bool, ticks: u8) -> bool
+    ensures { λ r. ⌜ r ≡ atOnce hides ticks ⌝ }
+{
+    hides | (ticks == 0)
+}
+
 impl Bay {
-    // A device is in the bay, by its accepted levels.
-    pub fn present(self) -> bool
-        ensures { λ r. ⌜ r ≡ Record·present self ⌝ }
+    // A contact is closed, by the accepted levels.
+    fn contact(self) -> bool
+        ensures { λ r. ⌜ r ≡ Record·contact self ⌝ }
     {
         let accepted = self.accepted;
         !accepted[Bay::N1394] | !accepted[Bay::NUSB]
+    }
+
+    // A device is in the bay, and not hidden.
+    pub fn present(self, hides: bool) -> bool
+        ensures { λ r. ⌜ r ≡ Record·present hides self ⌝ }
+    {
+        !hidden(hides, self.wait) & self.contact()
     }
 
     // A press can ask for the device in these states.
@@ -27,39 +56,67 @@ impl Bay {
         (self.state == Bay::INSERTED) | (self.state == Bay::ENABLED)
     }
 
-    // The wait after a TICK in which no device leaves.
-    fn wait_after(self, ticks: u8, arrives: bool) -> u8
-        ensures { λ r. ⌜ r ≡ waitAfter ticks self false arrives ⌝ }
+    // A TICK with this contact begins a wait.
+    fn begins(self, hides: bool, before: bool, now: bool) -> bool
+        requires { ⌜ before ≡ Record·contact self ⌝ }
+        ensures { λ r. ⌜ r ≡ begins hides self now ⌝ }
     {
-        if arrives & self.control.devstschg_en {
+        let new = !before & now;
+        if hides {
+            new & !(0 < self.wait)
+        } else {
+            new & self.control.devstschg_en
+        }
+    }
+
+    // The wait after a TICK with this contact.
+    fn wait_after(self, hides: bool, ticks: u8, now: bool) -> u8
+        ensures { λ r. ⌜ r ≡ waitAfter hides ticks self now ⌝ }
+    {
+        let before = self.contact();
+        if (hides | before) & !now {
+            return 0;
+        }
+        if self.begins(hides, before, now) {
             begun(ticks, self.wait)
         } else {
             fallen(self.wait)
         }
     }
 
-    // Such a TICK makes the bay Inserted: by an arrival that needn't wait, or else as the wait's last tick falls.
-    fn inserts(self, ticks: u8, arrives: bool) -> bool
-        ensures { λ r. ⌜ r ≡ inserts ticks self arrives ⌝ }
+    // A TICK in which no device leaves makes the bay Inserted.
+    fn inserts(self, hides: bool, ticks: u8, arrives: bool) -> bool
+        ensures { λ r. ⌜ r ≡ inserts hides ticks self arrives ⌝ }
     {
         if arrives & self.control.devstschg_en {
-            ticks == 0
+            at_once(hides, ticks)
         } else {
-            self.wait == 1
+            !hides & (self.wait == 1)
         }
     }
 
     // The one move of such a TICK.
-    fn state_after(self, ticks: u8, arrives: bool, heeded: bool) -> u8
-        ensures { λ r. ⌜ r ≡ stateAfter ticks self false arrives heeded ⌝ }
+    fn state_after(self, hides: bool, ticks: u8, arrives: bool, heeded: bool) -> u8
+        ensures { λ r. ⌜ r ≡ stateAfter hides ticks self false arrives heeded ⌝ }
     {
-        if self.inserts(ticks, arrives) {
+        if self.inserts(hides, ticks, arrives) {
             return Bay::INSERTED;
         }
         if heeded & self.control.remreq_en & !self.remreq_sts & self.in_use() {
             return Bay::REMOVAL_REQUESTED;
         }
         self.state
+    }
+
+    // A presence bit shows another contact after a TICK with this wait and these inputs.
+    fn changes(self, hides: bool, wait: u8, inputs: Inputs) -> bool
+        ensures { λ r. ⌜ r ≡ changes hides self wait (inputs .n1394) (inputs .nusb) ⌝ }
+    {
+        let accepted = self.accepted;
+        !(shown(hides, self.wait, accepted[Bay::N1394])
+            == shown(hides, wait, inputs.n1394.accepted))
+            | !(shown(hides, self.wait, accepted[Bay::NUSB])
+                == shown(hides, wait, inputs.nusb.accepted))
     }
 
     // The inputs after a TICK.
@@ -91,11 +148,12 @@ impl Bay {
         }
     }
 
-    // A device leaves in a TICK with these inputs, whatever 42h has. The pulse has fallen already.
-    fn left(self, pulse: u8, inputs: Inputs) -> Bay
+    // A device leaves in a TICK with this wait and these inputs, whatever ticks there are to wait. The pulse has fallen already.
+    fn left(self, hides: bool, pulse: u8, wait: u8, change: bool, inputs: Inputs) -> Bay
         requires { ⌜ pulse ≡ self .pulse - 1 ⌝ }
-        requires { ⌜ leaves self (inputs .n1394) (inputs .nusb) ≡ true ⌝ }
-        ensures { λ r. ⌜ r ≡ movedBay 0 self (inputs .n1394) (inputs .nusb) (inputs .nremreq) ⌝ }
+        requires { ⌜ change ≡ changes hides self wait (inputs .n1394) (inputs .nusb) ⌝ }
+        requires { ⌜ leaves hides self wait (inputs .n1394) (inputs .nusb) ≡ true ⌝ }
+        ensures { λ r. ⌜ r ≡ movedTo hides 0 self wait (inputs .n1394) (inputs .nusb) (inputs .nremreq) ⌝ }
     {
         let n1394 = inputs.n1394;
         let nusb = inputs.nusb;
@@ -107,27 +165,30 @@ impl Bay {
             counts: [n1394.count, nusb.count, nremreq.count],
             accepted: [n1394.accepted, nusb.accepted, nremreq.accepted],
             remreq_sts: self.remreq_sts,
-            devstschg: self.devstschg | ((n1394.settled | nusb.settled) & !quiet),
+            devstschg: self.devstschg | (change & !quiet),
             state: Bay::EMPTY,
             control: self.control.released(),
             pulse,
-            wait: 0,
+            wait,
             n_sl: self.n_sl,
         }
     }
 
     // What a TICK makes of the bay, with its inputs. A press is heeded only over a device, so not as one leaves.
-    pub fn moved(self, ticks: u8, inputs: Inputs) -> Bay
-        ensures { λ r. ⌜ r ≡ movedBay ticks self (inputs .n1394) (inputs .nusb) (inputs .nremreq) ⌝ }
+    pub fn moved(self, hides: bool, ticks: u8, inputs: Inputs) -> Bay
+        ensures { λ r. ⌜ r ≡ movedBay hides ticks self (inputs .n1394) (inputs .nusb) (inputs .nremreq) ⌝ }
     {
         let n1394 = inputs.n1394;
         let nusb = inputs.nusb;
         let nremreq = inputs.nremreq;
-        let before = self.present();
-        let after = !n1394.accepted | !nusb.accepted;
+        let now = !n1394.accepted | !nusb.accepted;
+        let wait = self.wait_after(hides, ticks, now);
+        let change = self.changes(hides, wait, inputs);
+        let before = self.present(hides);
+        let after = !hidden(hides, wait) & now;
         let pulse = fallen(self.pulse);
         if before & !after {
-            return self.left(pulse, inputs);
+            return self.left(hides, pulse, wait, change, inputs);
         }
         let levels = self.levels;
         let control = self.control;
@@ -138,11 +199,11 @@ impl Bay {
             counts: [n1394.count, nusb.count, nremreq.count],
             accepted: [n1394.accepted, nusb.accepted, nremreq.accepted],
             remreq_sts: self.remreq_sts | heeded,
-            devstschg: self.devstschg | (n1394.settled | nusb.settled),
-            state: self.state_after(ticks, arrives, heeded),
+            devstschg: self.devstschg | change,
+            state: self.state_after(hides, ticks, arrives, heeded),
             control,
             pulse,
-            wait: self.wait_after(ticks, arrives),
+            wait,
             n_sl: self.n_sl,
         }
     }
@@ -150,7 +211,7 @@ impl Bay {
     // A TICK finds nothing to do, and leaves the bay as it is: every level is the accepted one, no device seats and no pulse runs.
     pub fn rests(self) -> bool
         ensures { λ r. ⌜ r ≡ rests self ⌝ }
-        ensures { λ r. ⌜ (r ≡ true → (s : Setting) → tickedBay s self ≡ self) ⌝ }
+        ensures { λ r. ⌜ (r ≡ true → (hides : Bool) (s : Setting) → tickedBay hides s self ≡ self) ⌝ }
     {
         let levels = self.levels;
         let accepted = self.accepted;
@@ -180,7 +241,7 @@ fn fallen(ticks: u8) -> u8
     if ticks == 0 { 0 } else { ticks - 1 }
 }
 
-// A wait begins with the ticks that 42h has; with 0 none begins.
+// A wait begins with so many ticks; with 0 none begins.
 pub(crate) fn begun(ticks: u8, wait: u8) -> u8
     ensures { λ r. ⌜ r ≡ begun ticks wait ⌝ }
 {

@@ -4,22 +4,24 @@ ghost use Rattle.bay.specs.Registers.{bstrOf, bcerOf, bstrWritten, contr
 use crate::Bay;
 use crate::Control;
 use crate::Setting;
+use crate::moves::at_once;
 use crate::moves::begun;
+use crate::moves::shown;
 use bits::has;
 use bits::put;
 
 impl Bay {
-    // BSTR as it reads.
-    pub fn bstr(self) -> u8
-        ensures { λ r. ⌜ r ≡ bstrOf self ⌝ }
+    // BSTR as it reads. `secured` is whether the security lock shows.
+    pub fn bstr(self, hides: bool, secured: bool) -> u8
+        ensures { λ r. ⌜ r ≡ bstrOf hides secured self ⌝ }
     {
         let accepted = self.accepted;
-        put(!self.n_sl, 128)
+        put(secured & !self.n_sl, 128)
             + self.state % 8 * 16
             + put(self.remreq_sts, 8)
             + put(self.devstschg, 4)
-            + put(!accepted[Bay::N1394], 2)
-            + put(!accepted[Bay::NUSB], 1)
+            + put(shown(hides, self.wait, accepted[Bay::N1394]), 2)
+            + put(shown(hides, self.wait, accepted[Bay::NUSB]), 1)
     }
 
     // BCER as it reads.
@@ -64,13 +66,13 @@ impl Bay {
     }
 
     // The state after a write: the first move that applies.
-    fn state_written(self, c: Control, present: bool, ticks: u8) -> u8
-        ensures { λ r. ⌜ r ≡ stateWritten ticks c present self ⌝ }
+    fn state_written(self, hides: bool, c: Control, present: bool, ticks: u8) -> u8
+        ensures { λ r. ⌜ r ≡ stateWritten hides ticks c present self ⌝ }
     {
         if c.asks() & present {
             return c.request;
         }
-        if self.finds(c, present) & (ticks == 0) {
+        if self.finds(c, present) & at_once(hides, ticks) {
             return Bay::INSERTED;
         }
         if c.remreq_en & !self.control.remreq_en & self.remreq_sts & self.in_use() {
@@ -79,10 +81,14 @@ impl Bay {
         self.state
     }
 
-    // The wait after a write: DEVSTSCHG_EN written 0 or a request over a device ends it, and a device that is found begins one.
-    fn wait_written(self, c: Control, present: bool, ticks: u8) -> u8
-        ensures { λ r. ⌜ r ≡ waitWritten ticks c present self ⌝ }
+    // The wait after a write: one that hides the device goes on; else DEVSTSCHG_EN written 0 or a request over a device ends
+    // it, and a device that is found begins one.
+    fn wait_written(self, hides: bool, c: Control, present: bool, ticks: u8) -> u8
+        ensures { λ r. ⌜ r ≡ waitWritten hides ticks c present self ⌝ }
     {
+        if hides {
+            return self.wait;
+        }
         if !c.devstschg_en | (c.asks() & present) {
             return 0;
         }
@@ -93,11 +99,11 @@ impl Bay {
         }
     }
 
-    // In LOCK_MODE 1, LOCK_CTL from 1 to 0 starts a pulse of `ticks`.
-    fn pulse_written(self, c: Control, lock_mode: bool, ticks: u8) -> u8
-        ensures { λ r. ⌜ r ≡ pulseWritten c «lock_mode» ticks self ⌝ }
+    // Where the lock is pulsed, LOCK_CTL from 1 to 0 starts a pulse of `ticks`.
+    fn pulse_written(self, c: Control, pulsed: bool, ticks: u8) -> u8
+        ensures { λ r. ⌜ r ≡ pulseWritten c pulsed ticks self ⌝ }
     {
-        if lock_mode & self.control.lock_ctl & !c.lock_ctl {
+        if pulsed & self.control.lock_ctl & !c.lock_ctl {
             ticks
         } else {
             self.pulse
@@ -105,23 +111,23 @@ impl Bay {
     }
 
     // What a driver's write does.
-    pub fn controlled(self, c: Control, setting: Setting) -> Bay
-        ensures { λ r. ⌜ r ≡ controlledBay c setting self ⌝ }
+    pub fn controlled(self, hides: bool, c: Control, setting: Setting) -> Bay
+        ensures { λ r. ⌜ r ≡ controlledBay hides c setting self ⌝ }
     {
         let levels = self.levels;
         let counts = self.counts;
         let accepted = self.accepted;
-        let present = self.present();
+        let present = self.present(hides);
         Bay {
             levels,
             counts,
             accepted,
             remreq_sts: self.remreq_sts,
             devstschg: self.devstschg,
-            state: self.state_written(c, present, setting.wait_ticks),
+            state: self.state_written(hides, c, present, setting.wait_ticks),
             control: self.control.written(c, present),
-            pulse: self.pulse_written(c, setting.lock_mode, setting.pulse_ticks),
-            wait: self.wait_written(c, present, setting.wait_ticks),
+            pulse: self.pulse_written(c, setting.pulsed, setting.pulse_ticks),
+            wait: self.wait_written(hides, c, present, setting.wait_ticks),
             n_sl: self.n_sl,
         }
     }

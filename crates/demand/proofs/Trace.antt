@@ -6,13 +6,13 @@ use mathlib.Core.Bool.{false}
 use mathlib.Core.List.{List, [], _∷_, _++_}
 use Rattle.event.specs.Words.{unpacked}
 use Rattle.bits.specs.Straps.{lockDef, lockMode}
-use Rattle.bay.specs.Record.{present, resetBay}
+use Rattle.bay.specs.Record.{contact, present, resetBay}
 use Rattle.bay.specs.Moves.{inUse}
 use Rattle.bay.specs.Registers.{bstrOf, controlOf, asks, requestWritten, finds, stateWritten, pulseWritten, controlledBay}
 use Rattle.bay.specs.Outputs.{lockPin, green, yellow, bayOutputs, interrupts}
 use Rattle.bus.specs.Progress.{ownWrite, ownRead}
 use Rattle.bus.specs.declared.Reply.the-variants.{Driven}
-use Rattle.machine.specs.Record.{bayIn, placed, openBy, freshMachine}
+use Rattle.machine.specs.Record.{bayIn, placed, openBy, hides, secured, freshMachine}
 use Rattle.machine.specs.Outputs.{nibble, wants, outputs}
 use Rattle.machine.specs.Registers.{bstrAt, registers, register, reading, pulseTicks, settingOf, bcerWrite, writes, written}
 use Rattle.machine.specs.Acts.{resetTo, does, doesAll}
@@ -33,5 +33,5 @@ pub record AsPrinted : Type 0 where
   pub its-last-answer : plainAnswer words 0x6000 ≡ Done (Driven 0x15) 0x041
 
 pub trace-as-printed : AsPrinted
-unfolding unpacked accepted takes silent onBus hears decided lineAfter actsOf goesOn completes decides ownWrite ownRead machineAfter lastRead readBy replyBy replyTo plainAnswer does doesAll freshMachine resetTo lockDef lockMode resetBay present inUse bstrOf controlOf asks requestWritten finds stateWritten pulseWritten controlledBay lockPin green yellow bayOutputs interrupts bayIn placed openBy nibble wants outputs bstrAt registers register reading pulseTicks settingOf bcerWrite writes written
+unfolding unpacked accepted takes silent onBus hears decided lineAfter actsOf goesOn completes decides ownWrite ownRead machineAfter lastRead readBy replyBy replyTo plainAnswer does doesAll freshMachine resetTo lockDef lockMode resetBay contact present inUse bstrOf controlOf asks requestWritten finds stateWritten pulseWritten controlledBay lockPin green yellow bayOutputs interrupts bayIn placed openBy hides secured nibble wants outputs bstrAt registers register reading pulseTicks settingOf bcerWrite writes written
 trace-as-printed = record { its-acts = refl; its-last-answer = refl }

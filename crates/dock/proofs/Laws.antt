@@ -8,7 +8,7 @@ use Rattle.event.specs.declared.Event.the-variants.{Stop, Pins, Tick}
 use Rattle.bay.specs.Record.{present, EMPTY}
 use Rattle.bay.proofs.Press.{Press, Kept as Pressed, press-then-write}
 use Rattle.bus.specs.declared.Progress.the-variants.{Idle, Data}
-use Rattle.machine.specs.Record.{bayAt, isOpen, fits}
+use Rattle.machine.specs.Record.{bayAt, isOpen, hides, fits}
 use Rattle.machine.specs.Registers.{settingOf}
 use Rattle.machine.specs.After.{bcerAddress}
 use Rattle.machine.proofs.Moves.{moves}
@@ -55,11 +55,11 @@ tick-inside-a-write s r v p = stop-decides (next s Tick) r v (tick-passed-over s
 -- a write that asks for no state doesn't lose it.
 pub press-inside-a-write :
     (s : Controller) (i v : ℕ) → isOpen (s .machine) i ≡ true → s .progress ≡ Data (bcerAddress i) v → v / 16 % 8 ≡ 0
-    → Press (settingOf (s .machine)) (bayAt (s .machine) i) → Pressed v (bayAt (next (next s Tick) Stop .machine) i)
-unfolding does tickTo
+    → Press (hides (s .machine)) (settingOf (s .machine)) (bayAt (s .machine) i) → Pressed v (bayAt (next (next s Tick) Stop .machine) i)
+unfolding does tickTo hides
 press-inside-a-write s i v o d z p =
     let m = does act.Tick (s .machine) in
-    rw (tick-inside-a-write s (bcerAddress i) v d, moves m i .bcer v o, moves (s .machine) i .tick o) (press-then-write v _ _ (bayAt (s .machine) i) z p)
+    rw (tick-inside-a-write s (bcerAddress i) v d, moves m i .bcer v o, moves (s .machine) i .tick o) (press-then-write (hides (s .machine)) v _ _ (bayAt (s .machine) i) z p)
 
 -- ---- reached states: the fault that started this work
 
@@ -69,9 +69,9 @@ reached-sound s = reached-keeps Sound sound-kept s fresh-sound
 -- No reached state has a powered bay without a device, or without its lock.
 pub no-power-without-device :
     (s : Controller) → Reached s → (i : ℕ)
-    → bayAt (s .machine) i .control .«pwr_ctl» ≡ true → (bayAt (s .machine) i .control .«lock_ctl» ≡ true) × (present (bayAt (s .machine) i) ≡ true)
+    → bayAt (s .machine) i .control .«pwr_ctl» ≡ true → (bayAt (s .machine) i .control .«lock_ctl» ≡ true) × (present (hides (s .machine)) (bayAt (s .machine) i) ≡ true)
 no-power-without-device s r i = reached-sound s r .bays i .powered
 
 -- In a reached state a bay that isn't Empty, so also an Enabled one, holds a device.
-pub no-state-without-device : (s : Controller) → Reached s → (i : ℕ) → bayAt (s .machine) i .state ≢ EMPTY → present (bayAt (s .machine) i) ≡ true
+pub no-state-without-device : (s : Controller) → Reached s → (i : ℕ) → bayAt (s .machine) i .state ≢ EMPTY → present (hides (s .machine)) (bayAt (s .machine) i) ≡ true
 no-state-without-device s r i = reached-sound s r .bays i .held

@@ -19,7 +19,7 @@ use Rattle.bay.specs.declared.Setting.{Setting}
 use Rattle.bay.proofs.Taut.{pick}
 use Rattle.bay.proofs.Sound.{ticked-sound}
 use Rattle.bay.proofs.Press.{WithArrival, press-over-nothing, empty-without-device, press-with-arrival}
-use Rattle.machine.specs.Record.{bayAt, isOpen, fits}
+use Rattle.machine.specs.Record.{bayAt, isOpen, hides, fits}
 use Rattle.machine.specs.Acts.{does}
 use Rattle.machine.specs.declared.Act.the-variants as act
 use Rattle.machine.specs.Remreq.{remreq, remreqAfter}
@@ -45,7 +45,7 @@ remreq-next s e i = part-next (λ m. remreq m i) (λ m a. remreqAfter m i a) (λ
 -- So REMREQ_STS goes from 0 to 1 only at a TICK that accepts a press with a device present at its end.
 pub record Raised (s : Controller) (i : ℕ) (u : Unpacked) (after : Controller) : Type 0 where
   pub a-tick : u ≡ Accepted Tick
-  pub a-press : pressOver (bayAt (s .machine) i) (bayAt (after .machine) i) ≡ true
+  pub a-press : pressOver (hides (s .machine)) (bayAt (s .machine) i) (bayAt (after .machine) i) ≡ true
 
 event-raises : (s : Controller) (e : Event) (i : ℕ) → remreq (s .machine) i ≡ false → remreqNext s i e ≡ true → Raised s i (Accepted e) (next s e)
 unfolding next turnOf remreqNext remreqAfter
@@ -83,7 +83,7 @@ remreq-raised s w i z = pick (P (unpacked w)) (fits (s .machine)) (λ f. word (u
 -- ---- a press over nothing, and one as a device arrives, in a reached state
 
 -- What holds of a bay where a TICK is refused or passes it by, and where it acts, holds after a TICK.
-tick-either : (P : Bay → Type 0) (s : Controller) (i : ℕ) → P (bayAt (s .machine) i) → P (tickedBay (settingOf (s .machine)) (bayAt (s .machine) i)) → P (bayAt (afterTick s) i)
+tick-either : (P : Bay → Type 0) (s : Controller) (i : ℕ) → P (bayAt (s .machine) i) → P (tickedBay (hides (s .machine)) (settingOf (s .machine)) (bayAt (s .machine) i)) → P (bayAt (afterTick s) i)
 unfolding stepOf unpacked next turnOf bayAfter
 tick-either P s i same ticked =
     pick Q (fits (s .machine)) (λ f. pick Q (takes (s .machine .started) Tick) (λ k. acted) (λ k. same)) (λ f. same)
@@ -100,11 +100,11 @@ pub record NothingAsked (before after : Bay) : Type 0 where
   pub empty : after .state ≡ 0
 
 pub reached-press-over-nothing :
-    (s : Controller) → Reached s → (i : ℕ) → present (bayAt (afterTick s) i) ≡ false → NothingAsked (bayAt (s .machine) i) (bayAt (afterTick s) i)
+    (s : Controller) → Reached s → (i : ℕ) → present (hides (s .machine)) (bayAt (afterTick s) i) ≡ false → NothingAsked (bayAt (s .machine) i) (bayAt (afterTick s) i)
 reached-press-over-nothing s r i =
-    tick-either (λ c. present c ≡ false → NothingAsked b c) s i
-    (λ q. record { remreq-kept = refl; empty = empty-without-device b sound q })
-    (λ q. record { remreq-kept = press-over-nothing g b q .remreq-kept; empty = empty-without-device (tickedBay g b) (ticked-sound g b sound) q })
+    tick-either (λ c. present (hides (s .machine)) c ≡ false → NothingAsked b c) s i
+    (λ q. record { remreq-kept = refl; empty = empty-without-device (hides (s .machine)) b sound q })
+    (λ q. record { remreq-kept = press-over-nothing (hides (s .machine)) g b q .remreq-kept; empty = empty-without-device (hides (s .machine)) (tickedBay (hides (s .machine)) g b) (ticked-sound (hides (s .machine)) g b sound) q })
   where
     g : Setting
     g = settingOf (s .machine)
@@ -112,17 +112,17 @@ reached-press-over-nothing s r i =
     b : Bay
     b = bayAt (s .machine) i
 
-    sound : Sound b
+    sound : Sound (hides (s .machine)) b
     sound = reached-sound s r .bays i
 
--- A press in the TICK in which a device arrives: REMREQ_STS is set, and the bay is Inserted if DEVSTSCHG_EN is 1 and 42h is 0, and else
--- still Empty.
+-- A press in the TICK in which a device arrives: REMREQ_STS is set, and the bay is Inserted if DEVSTSCHG_EN is 1 and it needn't wait, and
+-- else still Empty.
 pub reached-press-with-arrival :
-    (s : Controller) → Reached s → (i : ℕ) → present (bayAt (s .machine) i) ≡ false
-    → pressOver (bayAt (s .machine) i) (bayAt (afterTick s) i) ≡ true → WithArrival (settingOf (s .machine)) (bayAt (s .machine) i) (bayAt (afterTick s) i)
+    (s : Controller) → Reached s → (i : ℕ) → present (hides (s .machine)) (bayAt (s .machine) i) ≡ false
+    → pressOver (hides (s .machine)) (bayAt (s .machine) i) (bayAt (afterTick s) i) ≡ true → WithArrival (hides (s .machine)) (settingOf (s .machine)) (bayAt (s .machine) i) (bayAt (afterTick s) i)
 reached-press-with-arrival s r i p =
-    tick-either (λ c. pressOver b c ≡ true → WithArrival (settingOf (s .machine)) b c) s i (λ k. absurd (false≢true (rw and-not-self at k)))
-    (press-with-arrival (settingOf (s .machine)) b (reached-sound s r .bays i) p)
+    tick-either (λ c. pressOver (hides (s .machine)) b c ≡ true → WithArrival (hides (s .machine)) (settingOf (s .machine)) b c) s i (λ k. absurd (false≢true (rw and-not-self at k)))
+    (press-with-arrival (hides (s .machine)) (settingOf (s .machine)) b (reached-sound s r .bays i) p)
   where
     b : Bay
     b = bayAt (s .machine) i

@@ -1,12 +1,12 @@
 -- 42h and a bay's wait over events, in every controller; and what is true of a wait in those reached from a fresh one (document 02, request
 -- 6). Assumes nothing.
 use Prim.Native.Nat.{ℕ, _<_}
-use mathlib.Core.Path.{_≡_}
+use mathlib.Core.Path.{_≡_, refl}
 use mathlib.Core.Logic.{_⊎_}
 use mathlib.Core.Bool.{true, false}
 use Rattle.event.specs.declared.Event.{Event}
 use Rattle.bay.specs.Record.{present}
-use Rattle.machine.specs.Record.{bayAt}
+use Rattle.machine.specs.Record.{bayAt, hides}
 use Rattle.machine.specs.Wait.{waitTime, waitTimeAfter, waitOf, waitAfter}
 use Rattle.machine.specs.Seats.{Seats}
 use Rattle.machine.proofs.Wait.{wait-time-after, wait-after}
@@ -28,15 +28,16 @@ wait-next i = part-next (λ m. waitOf m i) (λ m a. waitAfter m i a) (λ a m. wa
 
 -- A device that is present in Empty: DEVSTSCHG_EN is clear, or a wait runs.
 pub empty-with-device :
-    (s : Controller) → Reached s → (i : ℕ) → present (bayAt (s .machine) i) ≡ true → bayAt (s .machine) i .state ≡ 0
+    (s : Controller) → Reached s → (i : ℕ) → present (hides (s .machine)) (bayAt (s .machine) i) ≡ true → bayAt (s .machine) i .state ≡ 0
     → (bayAt (s .machine) i .control .«devstschg_en» ≡ false) ⊎ (0 < waitOf (s .machine) i)
 empty-with-device s r i = reached-sound s r .bays i .waiting
 
 -- A wait runs only in Empty, over a device, with DEVSTSCHG_EN set.
 pub waits-only :
     (s : Controller) → Reached s → (i : ℕ) → 0 < waitOf (s .machine) i
-    → (bayAt (s .machine) i .state ≡ 0) × (present (bayAt (s .machine) i) ≡ true) × (bayAt (s .machine) i .control .«devstschg_en» ≡ true)
-waits-only s r i = reached-sound s r .bays i .seating
+    → (bayAt (s .machine) i .state ≡ 0) × (present (hides (s .machine)) (bayAt (s .machine) i) ≡ true) × (bayAt (s .machine) i .control .«devstschg_en» ≡ true)
+unfolding hides present
+waits-only s r i l = let three = reached-sound s r .bays i .seating l in (three .0, three .1, three .2 refl)
 
 -- And it keeps its promise, whatever acts come.
 pub reached-waits : (s : Controller) → Reached s → (i : ℕ) → 0 < waitOf (s .machine) i → Seats (waitOf (s .machine) i) (s .machine) i

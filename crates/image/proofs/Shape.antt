@@ -6,11 +6,11 @@ use lib.Dec.{eqb}
 use lib.ListN.{length}
 use Rattle.bay.specs.Record.{emptyBay, resetBay}
 use Rattle.bay.specs.Debounce.{sampledBay}
-use Rattle.bay.specs.Moves.{movedBay, tickedBay}
+use Rattle.bay.specs.Moves.{movedTo, movedBay, tickedBay}
 use Rattle.bay.specs.Registers.{bstrWritten, controlledBay}
 use Rattle.bay.specs.declared.Bay.{Bay}
 use Rattle.bay.proofs.Taut.{pick}
-use Rattle.machine.specs.Record.{bayAt, bayIn, placed, withBay, isOpen, freshMachine}
+use Rattle.machine.specs.Record.{bayAt, bayIn, placed, withBay, isOpen, freshMachine, hides}
 use Rattle.machine.specs.Registers.{settingOf, dbccrStored, dbccrWrite, letrWrite, waitWrite, bstrWrite, bcerWrite, written}
 use Rattle.machine.specs.Acts.{resetTo, pinsTo, tickTo, does}
 use Rattle.machine.specs.Kept.{Kept}
@@ -42,17 +42,17 @@ module _ (b : Bay) (h : ShapedBay b) where
   unfolding sampledBay
   sampled-shaped levels = record { levels = refl; accepted = h .accepted; counts = refl }
 
-  ticked-shaped : (s : _) → ShapedBay (tickedBay s b)
-  unfolding tickedBay movedBay
-  ticked-shaped s = record { levels = h .levels; accepted = refl; counts = refl }
+  ticked-shaped : (hides : _) (s : _) → ShapedBay (tickedBay hides s b)
+  unfolding tickedBay movedBay movedTo
+  ticked-shaped hides s = record { levels = h .levels; accepted = refl; counts = refl }
 
   bstr-shaped : (v : ℕ) → ShapedBay (bstrWritten v b)
   unfolding bstrWritten
   bstr-shaped v = record { levels = h .levels; accepted = h .accepted; counts = h .counts }
 
-  bcer-shaped : (c : _) (s : _) → ShapedBay (controlledBay c s b)
+  bcer-shaped : (hides : _) (c : _) (s : _) → ShapedBay (controlledBay hides c s b)
   unfolding controlledBay
-  bcer-shaped c s = record { levels = h .levels; accepted = h .accepted; counts = h .counts }
+  bcer-shaped hides c s = record { levels = h .levels; accepted = h .accepted; counts = h .counts }
 
 -- ---- each act
 
@@ -60,8 +60,8 @@ module _ (m : Machine) (h : Shaped m) where
   bays-shaped : (a : Act) (i : ℕ) → ShapedBay (bayAt (does a m) i)
   bays-shaped a i =
       let shaped = h .bays i in
-      after-act ShapedBay m i reset-shaped empty-shaped (sampled-shaped (bayAt m i) shaped) (ticked-shaped (bayAt m i) shaped (settingOf m))
-      (bstr-shaped (bayAt m i) shaped) (λ v. bcer-shaped (bayAt m i) shaped _ (settingOf m)) shaped a
+      after-act ShapedBay m i reset-shaped empty-shaped (sampled-shaped (bayAt m i) shaped) (ticked-shaped (bayAt m i) shaped (hides m) (settingOf m))
+      (bstr-shaped (bayAt m i) shaped) (λ v. bcer-shaped (bayAt m i) shaped (hides m) _ (settingOf m)) shaped a
 
   two-bays : (a v : ℕ) → length (written a v m .bays) ≡ 2
   unfolding dbccrWrite dbccrStored letrWrite waitWrite bstrWrite bcerWrite placed

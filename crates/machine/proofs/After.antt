@@ -11,7 +11,7 @@ use Rattle.bay.specs.Debounce.{sampledBay}
 use Rattle.bay.specs.Moves.{tickedBay}
 use Rattle.bay.specs.Registers.{bstrWritten, controlOf, controlledBay}
 use Rattle.bay.proofs.Taut.{pick}
-use Rattle.machine.specs.Record.{bay0, bay1, bayAt, bayIn, placed, openBy, isOpen, withBay}
+use Rattle.machine.specs.Record.{bay0, bay1, bayAt, bayIn, placed, openBy, isOpen, withBay, hides}
 use Rattle.machine.specs.Registers.{settingOf, dbccrTo, dbccrStored, dbccrWrite, letrWrite, waitWrite, bstrWrite, bcerWrite, writes, written}
 use Rattle.machine.specs.Acts.{lockAfterReset, resetTo, sampledAt, tickedAt, pinsTo, tickTo, does}
 use Rattle.machine.specs.After.{bstrAddress, bcerAddress, closes, ownLevels, bayWritten, bayAfter, sharedWritten}
@@ -23,7 +23,7 @@ use Rattle.machine.specs.declared.Act.the-variants.{Write, Read, Pins, T
 
 module _ (a v : ℕ) (m : Machine) where
   abbrev controlled : Bay → Bay
-  controlled b = controlledBay (controlOf v) (settingOf m) b
+  controlled b = controlledBay (hides m) (controlOf v) (settingOf m) b
 
   -- Bay 0, which is always open.
   abbrev firstTo : Bay
@@ -138,14 +138,14 @@ three i = go (eqb i 0) refl
 -- ---- every act
 
 -- A TICK and PINS pass a closed bay by; of PINS and RESET a bay takes its own levels.
-tick-bay : (m : Machine) (i : ℕ) → bayAt (tickTo m) i ≡ cond (isOpen m i) (tickedBay (settingOf m) (bayAt m i)) (bayAt m i)
+tick-bay : (m : Machine) (i : ℕ) → bayAt (tickTo m) i ≡ cond (isOpen m i) (tickedBay (hides m) (settingOf m) (bayAt m i)) (bayAt m i)
 unfolding tickTo tickedAt bayIn openBy
 tick-bay m i = go (eqb i 0)
   where
     go :
         (z : Bool)
         → cond z (tickedAt m 0) (tickedAt m 1)
-        ≡ cond (z || isOpen m 1) (tickedBay (settingOf m) (cond z (bayAt m 0) (bayAt m 1))) (cond z (bayAt m 0) (bayAt m 1))
+        ≡ cond (z || isOpen m 1) (tickedBay (hides m) (settingOf m) (cond z (bayAt m 0) (bayAt m 1))) (cond z (bayAt m 0) (bayAt m 1))
     go true = refl
     go false = refl
 
@@ -182,8 +182,8 @@ bay-after (Reset straps levels short) m i = reset-bay straps levels short i
 -- So what holds of the bays that a RESET and a closing make, and of what each rule makes of this bay, holds of it after any act.
 pub after-act :
     (P : Bay → Type 0) (m : Machine) (i : ℕ) → ((levels : ℕ) (lock : Bool) → P (resetBay levels lock)) → P emptyBay
-    → ((levels : ℕ) → P (sampledBay levels (bayAt m i))) → P (tickedBay (settingOf m) (bayAt m i)) → ((v : ℕ) → P (bstrWritten v (bayAt m i)))
-    → ((v : ℕ) → P (controlledBay (controlOf v) (settingOf m) (bayAt m i))) → P (bayAt m i) → (a : Act) → P (bayAt (does a m) i)
+    → ((levels : ℕ) → P (sampledBay levels (bayAt m i))) → P (tickedBay (hides m) (settingOf m) (bayAt m i)) → ((v : ℕ) → P (bstrWritten v (bayAt m i)))
+    → ((v : ℕ) → P (controlledBay (hides m) (controlOf v) (settingOf m) (bayAt m i))) → P (bayAt m i) → (a : Act) → P (bayAt (does a m) i)
 unfolding does bayAfter
 after-act P m i r e s t b c n (Write a v) = of-write a v m P i (λ _ _. c v) (λ _ _. b v) (λ _ _ _. e) (λ _ _ _. n)
 after-act P m i r e s t b c n (Read a) = n

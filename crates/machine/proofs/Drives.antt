@@ -8,11 +8,11 @@ use lib.Dec.{ltb}
 use lib.ListN.{getD, replicate}
 use borrow.Author.Tests.{eq-eqb, ne-eqb, ltb-true, ltb-false}
 use Rattle.bits.specs.Bits.{bit, put}
-use Rattle.bits.specs.Straps.{lockMode}
 use Rattle.bay.specs.Outputs.{lockPin, bayOutputs}
 use Rattle.bay.proofs.Taut.{pick}
 use Rattle.bay.proofs.Named.{bay-drives, lamps}
-use Rattle.machine.specs.Record.{bayAt, isOpen}
+use Rattle.machine.specs.Record.{bayAt, isOpen, hides}
+use Rattle.machine.specs.Registers.{settingOf}
 use Rattle.machine.specs.Outputs.{nibble, wants, outputs}
 use Rattle.machine.specs.Acts.{nextPhase, tickTo, does, doesAll}
 use Rattle.machine.specs.declared.Machine.{Machine}
@@ -46,18 +46,18 @@ nine-outputs m t =
 -- while the phase is below 100.
 pub record Four (m : Machine) (i : ℕ) (four : ℕ) : Type 0 where
   pub power : bit 3 four ≡ bayAt m i .control .«pwr_ctl»
-  pub lock-pin : bit 2 four ≡ lockPin (lockMode (m .straps)) (bayAt m i)
+  pub lock-pin : bit 2 four ≡ lockPin (settingOf m) (bayAt m i)
   pub green : bit 1 four ≡ getD (false ∷ ltb (m .phase) 100 ∷ true ∷ false ∷ false ∷ []) (bayAt m i .state) false
   pub yellow : bit 0 four ≡ getD (false ∷ false ∷ false ∷ ltb (m .phase) 100 ∷ false ∷ []) (bayAt m i .state) false
 
 pub four-outputs : (m : Machine) (i : ℕ) → isOpen m i ≡ true → bayAt m i .state < 5 → Four m i (nibble m i)
-unfolding nibble
+unfolding nibble hides
 four-outputs m i o l = rw (chosen o) four
   where
-    four : Four m i (bayOutputs (lockMode (m .straps)) (ltb (m .phase) 100) (bayAt m i))
+    four : Four m i (bayOutputs (hides m) (settingOf m) (ltb (m .phase) 100) (bayAt m i))
     four =
-        let d = bay-drives (lockMode (m .straps)) (ltb (m .phase) 100) (bayAt m i) in
-        let lamp = lamps (ltb (m .phase) 100) (bayAt m i) l in
+        let d = bay-drives (hides m) (settingOf m) (ltb (m .phase) 100) (bayAt m i) in
+        let lamp = lamps (hides m) (ltb (m .phase) 100) (bayAt m i) l in
         record { power = d .power; lock-pin = d .lock; green = d .green ∙ lamp .0; yellow = d .yellow ∙ lamp .1 }
 
 -- ---- the phase

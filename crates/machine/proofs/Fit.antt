@@ -11,7 +11,7 @@ use Rattle.bits.specs.Straps.{MOST-STRAPS}
 use Rattle.bay.specs.Record.{MOST-PULSE, bayFit}
 use Rattle.bay.proofs.Taut.{pick}
 use Rattle.bay.proofs.Fit.{empty-fit, reset-fit, sampled-fit, ticked-fit, bstr-written-fit, controlled-fit}
-use Rattle.machine.specs.Record.{PHASES, bayAt, bayIn, fits, freshMachine}
+use Rattle.machine.specs.Record.{PHASES, bayAt, bayIn, fits, freshMachine, hides}
 use Rattle.machine.specs.Registers.{pulseTicks, settingOf, written}
 use Rattle.machine.specs.Acts.{resetTo, pinsTo, nextPhase, tickTo, does}
 use Rattle.machine.specs.After.{sharedWritten}
@@ -93,8 +93,8 @@ bays-fit : (a : Act) (m : Machine) → Fits m → (i : ℕ) → bayFit (bayAt (d
 unfolding settingOf
 bays-fit a m f i =
     let fit = f .bays i in
-    after-act (λ b. bayFit b ≡ true) m i reset-fit empty-fit (λ levels. sampled-fit levels (bayAt m i) fit) (ticked-fit (settingOf m) (bayAt m i) fit)
-    (λ v. bstr-written-fit v (bayAt m i) fit) (λ v. controlled-fit _ (settingOf m) (bayAt m i) (ticks-most (m .shared .«lock_time»)) fit) fit a
+    after-act (λ b. bayFit b ≡ true) m i reset-fit empty-fit (λ levels. sampled-fit levels (bayAt m i) fit) (ticked-fit (hides m) (settingOf m) (bayAt m i) fit)
+    (λ v. bstr-written-fit v (bayAt m i) fit) (λ v. controlled-fit (hides m) _ (settingOf m) (bayAt m i) (ticks-most (m .shared .«lock_time»)) fit) fit a
 
 pins-parts : (levels : ℕ) (m : Machine) → Fits m → Fits (pinsTo levels m)
 unfolding does pinsTo

@@ -10,7 +10,7 @@ use Rattle.bay.specs.declared.Bay.{Bay}
 use Rattle.bay.specs.Happens.{Happens, tick, pins, happens, happensAll}
 use Rattle.bay.proofs.Taut.{pick, neither, taut, implies, apply}
 use Rattle.bay.proofs.Happens.{happens-more}
-use Rattle.machine.specs.Record.{bayAt, openBy, isOpen}
+use Rattle.machine.specs.Record.{bayAt, openBy, isOpen, hides}
 use Rattle.machine.specs.Registers.{settingOf}
 use Rattle.machine.specs.Acts.{pinsTo, tickTo, does, doesAll}
 use Rattle.machine.specs.After.{bstrAddress, bcerAddress, closes, ownLevels, bayAfter, sharedWritten}
@@ -24,22 +24,22 @@ use Rattle.machine.proofs.After.{bay-after, of-write, written-shared, t
 -- ---- one act
 
 -- What happens to an open bay, and nothing to a closed one.
-while-open : (o : Bool) (x : Happens) (b : Bay) → cond o (happens x b) b ≡ happensAll (cond o (x ∷ []) []) b
+while-open : (hides o : Bool) (x : Happens) (b : Bay) → cond o (happens hides x b) b ≡ happensAll hides (cond o (x ∷ []) []) b
 unfolding happensAll
-while-open true x b = refl
-while-open false x b = refl
+while-open hides true x b = refl
+while-open hides false x b = refl
 
-pub act-happens : (a : Act) (m : Machine) (i : ℕ) → remakes m i a ≡ false → bayAt (does a m) i ≡ happensAll (happensAt m i a) (bayAt m i)
+pub act-happens : (a : Act) (m : Machine) (i : ℕ) → remakes m i a ≡ false → bayAt (does a m) i ≡ happensAll (hides m) (happensAt m i a) (bayAt m i)
 unfolding does bayAfter remakes happensAt happensAll happens
 act-happens (Write a v) m i r =
-    of-write a v m (λ (b : Bay). b ≡ happensAll (happensAt m i (Write a v)) (bayAt m i)) i
+    of-write a v m (λ (b : Bay). b ≡ happensAll (hides m) (happensAt m i (Write a v)) (bayAt m i)) i
     (λ e o. rw (e, eq-eqb (bcerAddress i) (bcerAddress i) refl, o))
     (λ e o. rw (e, three i .bstr-bcer, eq-eqb (bstrAddress i) (bstrAddress i) refl, o))
     (λ k l c. absurd (true≢false (sym c ∙ r)))
     (λ k l c. rw (k, l))
 act-happens (Read a) m i r = refl
-act-happens (Pins levels) m i r = bay-after (Pins levels) m i ∙ while-open (isOpen m i) (pins (ownLevels i levels)) (bayAt m i)
-act-happens Tick m i r = bay-after Tick m i ∙ while-open (isOpen m i) (tick (settingOf m)) (bayAt m i)
+act-happens (Pins levels) m i r = bay-after (Pins levels) m i ∙ while-open (hides m) (isOpen m i) (pins (ownLevels i levels)) (bayAt m i)
+act-happens Tick m i r = bay-after Tick m i ∙ while-open (hides m) (isOpen m i) (tick (settingOf m)) (bayAt m i)
 act-happens (Reset straps levels short) m i r = absurd (true≢false r)
 
 -- The first write of DBCCR leaves a bay open that it doesn't close.
@@ -70,13 +70,13 @@ act-open (Reset straps levels short) m i o r = absurd (true≢false r)
 
 -- ---- a list of acts
 
-pub bay-run : (acts : List Act) (m : Machine) (i : ℕ) → remade m i acts ≡ false → bayAt (doesAll acts m) i ≡ happensAll (happened m i acts) (bayAt m i)
-unfolding doesAll happened remade happensAll
+pub bay-run : (acts : List Act) (m : Machine) (i : ℕ) → remade m i acts ≡ false → bayAt (doesAll acts m) i ≡ happensAll (hides m) (happened m i acts) (bayAt m i)
+unfolding hides doesAll happened remade happensAll
 bay-run [] m i r = refl
 bay-run (a ∷ acts) m i r =
     let both = neither (remakes m i a) (remade (does a m) i acts) r in
-    bay-run acts (does a m) i (both .1) ∙ ap (happensAll (happened (does a m) i acts)) (act-happens a m i (both .0))
-    ∙ sym (happens-more (happensAt m i a) (happened (does a m) i acts) (bayAt m i))
+    bay-run acts (does a m) i (both .1) ∙ ap (happensAll (hides m) (happened (does a m) i acts)) (act-happens a m i (both .0))
+    ∙ sym (happens-more (hides m) (happensAt m i a) (happened (does a m) i acts) (bayAt m i))
 
 pub open-run : (acts : List Act) (m : Machine) (i : ℕ) → isOpen m i ≡ true → remade m i acts ≡ false → isOpen (doesAll acts m) i ≡ true
 unfolding doesAll remade

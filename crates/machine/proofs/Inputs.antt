@@ -6,7 +6,7 @@ use Rattle.bay.specs.declared.Bay.{Bay}
 use Rattle.bay.specs.Debounced.{seesAll, atRest}
 use Rattle.bay.specs.Happens.{tick, pins, bstr, bcer, happens, line}
 use Rattle.bay.proofs.Happens.{input-sees, reset-line, empty-line}
-use Rattle.machine.specs.Record.{bayAt, isOpen}
+use Rattle.machine.specs.Record.{bayAt, isOpen, hides}
 use Rattle.machine.specs.Registers.{settingOf, written}
 use Rattle.machine.specs.Acts.{lockAfterReset, does}
 use Rattle.machine.specs.After.{closes, ownLevels, bayAfter}
@@ -27,7 +27,7 @@ module _ (k : ℕ) (l : k < 3) where
   unfolding happens seesAll
   write-input a v m i =
       of-write a v m (λ (b : Bay). line b k ≡ cond (closes m i a v) (atRest true) (inputOf m i k)) i
-      (λ e o. input-sees (bcer _ _) (bayAt m i) k l ∙ rw (e, three i .bcer-dbccr)) (λ e o. input-sees (bstr v) (bayAt m i) k l ∙ rw (e, three i .bstr-dbccr))
+      (λ e o. input-sees (hides m) (bcer _ _) (bayAt m i) k l ∙ rw (e, three i .bcer-dbccr)) (λ e o. input-sees (hides m) (bstr v) (bayAt m i) k l ∙ rw (e, three i .bstr-dbccr))
       (λ p q c. empty-line k l ∙ rw c) (λ p q c. rw c)
 
   pub input-after : (a : Act) (m : Machine) (i : ℕ) → inputOf (does a m) i k ≡ inputAfter m i k a
@@ -36,9 +36,9 @@ module _ (k : ℕ) (l : k < 3) where
   input-after (Read a) m i = refl
   input-after (Pins levels) m i =
       ap (λ (b : Bay). line b k) (bay-after (Pins levels) m i) ∙ of-picked k (isOpen m i) _ _
-      ∙ ap (λ t. cond (isOpen m i) t (inputOf m i k)) (input-sees (pins (ownLevels i levels)) (bayAt m i) k l)
+      ∙ ap (λ t. cond (isOpen m i) t (inputOf m i k)) (input-sees (hides m) (pins (ownLevels i levels)) (bayAt m i) k l)
   input-after Tick m i =
       ap (λ (b : Bay). line b k) (bay-after Tick m i) ∙ of-picked k (isOpen m i) _ _
-      ∙ ap (λ t. cond (isOpen m i) t (inputOf m i k)) (input-sees (tick (settingOf m)) (bayAt m i) k l)
+      ∙ ap (λ t. cond (isOpen m i) t (inputOf m i k)) (input-sees (hides m) (tick (settingOf m)) (bayAt m i) k l)
   input-after (Reset straps levels short) m i =
       ap (λ (b : Bay). line b k) (bay-after (Reset straps levels short) m i) ∙ reset-line (ownLevels i levels) (lockAfterReset straps) k l

@@ -12,7 +12,7 @@ use Rattle.bay.specs.Moves.{tickedBay, rests}
 use Rattle.bay.specs.Outputs.{bayOutputs, lockPin, green, yellow, interrupts}
 use Rattle.bay.proofs.Taut.{pick}
 use Rattle.bay.proofs.Ticks.{rested, at-rest}
-use Rattle.machine.specs.Record.{LIT, bay0, bay1, bayAt, bayIn, isOpen, openBy, become}
+use Rattle.machine.specs.Record.{LIT, bay0, bay1, bayAt, bayIn, isOpen, openBy, become, hides}
 use Rattle.machine.specs.Registers.{settingOf}
 use Rattle.machine.specs.Outputs.{nibble, wants, outputs}
 use Rattle.machine.specs.Acts.{sampledAt, tickedAt, pinsTo, tickTo, nextPhase, does, restful, keepsLit, keeps}
@@ -22,19 +22,19 @@ use Rattle.machine.specs.declared.Act.the-variants.{Write, Read, Pins, T
 
 -- Two bays that drive the same.
 record Alike (b c : Bay) : Type 0 where
-  pub drives : (mode lit : Bool) → bayOutputs mode lit c ≡ bayOutputs mode lit b
+  pub drives : (hides : Bool) (s : Setting) (lit : Bool) → bayOutputs hides s lit c ≡ bayOutputs hides s lit b
   pub asks : interrupts c ≡ interrupts b
 
 sampled-alike : (levels : ℕ) (b : Bay) → Alike b (sampledBay levels b)
 unfolding sampledBay bayOutputs lockPin green yellow interrupts
-sampled-alike levels b = record { drives = λ mode lit. refl; asks = refl }
+sampled-alike levels b = record { drives = λ hides s lit. refl; asks = refl }
 
-rested-alike : (s : Setting) (b : Bay) → rests b ≡ true → Alike b (tickedBay s b)
+rested-alike : (hides : Bool) (s : Setting) (b : Bay) → rests b ≡ true → Alike b (tickedBay hides s b)
 unfolding bayOutputs lockPin green yellow interrupts
-rested-alike s b e = record { drives = λ mode lit. rw (rested s b e); asks = rw (rested s b e) }
+rested-alike hides s b e = record { drives = λ hides′ s′ lit. rw (rested hides s b e); asks = rw (rested hides s b e) }
 
 -- A bay that a TICK leaves as it is, open or closed.
-pub unmoved : (m : Machine) (i : ℕ) → tickedBay (settingOf m) (bayAt m i) ≡ bayAt m i → tickedAt m i ≡ bayAt m i
+pub unmoved : (m : Machine) (i : ℕ) → tickedBay (hides m) (settingOf m) (bayAt m i) ≡ bayAt m i → tickedAt m i ≡ bayAt m i
 unfolding tickedAt
 unmoved m i e = pick (λ b. b ≡ bayAt m i) (isOpen m i) (λ o. e) (λ o. refl)
 
@@ -42,12 +42,12 @@ unmoved m i e = pick (λ b. b ≡ bayAt m i) (isOpen m i) (λ o. e) (λ o. refl)
 same-outputs :
     (m : Machine) (phase : ℕ) (b c : Bay) → ltb (m .phase) LIT ≡ ltb phase LIT → Alike (bayAt m 0) b → Alike (bayAt m 1) c
     → outputs (become (m .shared) phase (b ∷ c ∷ []) m) ≡ outputs m
-unfolding outputs nibble wants bayIn openBy
+unfolding outputs nibble wants bayIn openBy hides settingOf
 same-outputs m phase b c lit p q = rw (← lit, p .drives, p .asks, q .drives, q .asks)
 
 -- A bay that may be passed by.
 passed-by : (m : Machine) (i : ℕ) (b : Bay) → Alike (bayAt m i) b → Alike (bayAt m i) (cond (isOpen m i) b (bayAt m i))
-passed-by m i b p = pick (Alike (bayAt m i)) (isOpen m i) (λ e. p) (λ e. record { drives = λ mode lit. refl; asks = refl })
+passed-by m i b p = pick (Alike (bayAt m i)) (isOpen m i) (λ e. p) (λ e. record { drives = λ hides s lit. refl; asks = refl })
 
 pub kept-outputs : (a : Act) (m : Machine) → keeps a m ≡ true → outputs (does a m) ≡ outputs m
 unfolding does keeps pinsTo tickTo sampledAt tickedAt restful
@@ -61,8 +61,8 @@ kept-outputs Tick m e =
     let both = and-eq-true-iff (restful (m .bays)) (keepsLit (m .phase)) .0 e in
     let rest = and-eq-true-iff (rests (bayAt m 0)) (rests (bayAt m 1)) .0 (both .0) in
     same-outputs m (nextPhase (m .phase)) (tickedAt m 0) (tickedAt m 1) (beq-true (ltb (m .phase) LIT) (ltb (nextPhase (m .phase)) LIT) (both .1))
-    (passed-by m 0 (tickedBay (settingOf m) (bayAt m 0)) (rested-alike (settingOf m) (bayAt m 0) (rest .0)))
-    (passed-by m 1 (tickedBay (settingOf m) (bayAt m 1)) (rested-alike (settingOf m) (bayAt m 1) (rest .1)))
+    (passed-by m 0 (tickedBay (hides m) (settingOf m) (bayAt m 0)) (rested-alike (hides m) (settingOf m) (bayAt m 0) (rest .0)))
+    (passed-by m 1 (tickedBay (hides m) (settingOf m) (bayAt m 1)) (rested-alike (hides m) (settingOf m) (bayAt m 1) (rest .1)))
   where
     beq-true : (x y : Bool) → Bool·beq x y ≡ true → x ≡ y
     beq-true true true q = refl

@@ -9,7 +9,7 @@ use Rattle.bay.specs.Record.{present, ENABLED}
 use Rattle.bay.specs.Registers.{controlOf}
 use Rattle.bay.proofs.Taut.{pick}
 use Rattle.bay.proofs.Laws.{power-needs-lock-and-device, enabled-keeps-power}
-use Rattle.machine.specs.Record.{bayAt, bayIn, isOpen, fits, freshMachine}
+use Rattle.machine.specs.Record.{bayAt, bayIn, isOpen, fits, freshMachine, hides}
 use Rattle.machine.specs.Outputs.{nibble, wants, outputs}
 use Rattle.machine.specs.Registers.{settingOf, bstrAt, bcerAt, register, registers, reading, bstrWrite, bcerWrite, written, writes}
 use Rattle.machine.specs.Acts.{sampledAt, tickedAt, pinsTo, tickTo}
@@ -85,9 +85,9 @@ writes-apart v m =
 
 pub bcer-power :
     (i v : ℕ) (m : Machine) → isOpen m i ≡ true
-    → (bayAt (bcerWrite i v m) i .control .«pwr_ctl» ≡ true) ↔ ((bit 0 v ≡ true) × (bit 7 v ≡ true) × (present (bayAt m i) ≡ true))
+    → (bayAt (bcerWrite i v m) i .control .«pwr_ctl» ≡ true) ↔ ((bit 0 v ≡ true) × (bit 7 v ≡ true) × (present (hides m) (bayAt m i) ≡ true))
 unfolding bcerWrite controlOf
-bcer-power i v m o = rw (o, put-bay i) (power-needs-lock-and-device (controlOf v) _ (bayAt m i))
+bcer-power i v m o = rw (o, put-bay i) (power-needs-lock-and-device (hides m) (controlOf v) _ (bayAt m i))
 
 -- ---- power over a tick
 
@@ -95,4 +95,4 @@ bcer-power i v m o = rw (o, put-bay i) (power-needs-lock-and-device (controlOf v
 pub enabled-stays-powered : (m : Machine) (i : ℕ) → bayAt m i .control .«pwr_ctl» ≡ true → tickedAt m i .state ≡ ENABLED → tickedAt m i .control .«pwr_ctl» ≡ true
 unfolding tickedAt
 enabled-stays-powered m i p =
-    pick (λ (b : Bay). b .state ≡ ENABLED → b .control .«pwr_ctl» ≡ true) (isOpen m i) (λ o. enabled-keeps-power (settingOf m) (bayAt m i) p) (λ o e. p)
+    pick (λ (b : Bay). b .state ≡ ENABLED → b .control .«pwr_ctl» ≡ true) (isOpen m i) (λ o. enabled-keeps-power (hides m) (settingOf m) (bayAt m i) p) (λ o e. p)

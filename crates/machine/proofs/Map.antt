@@ -15,7 +15,7 @@ use Rattle.bay.specs.Record.{N1394, NUSB, NREMREQ, level, emptyBay}
 use Rattle.bay.proofs.Laws.{Sensed, sampled}
 use Rattle.bay.specs.Registers.{bstrOf, bcerOf}
 use Rattle.bay.proofs.Named.{bcer-pulses, reset-senses}
-use Rattle.machine.specs.Record.{bayAt, bayIn, openBy, isOpen}
+use Rattle.machine.specs.Record.{bayAt, bayIn, openBy, isOpen, hides, secured}
 use Rattle.machine.specs.Registers.{Row, find, dbccrOf, bstrAt, bcerAt, registers, register, reading, dbccrStored, dbccrWrite, letrWrite, waitWrite, pulseTicks, settingOf, bstrWrite, bcerWrite, writes, written}
 use Rattle.machine.specs.Acts.{resetTo, sampledAt, pinsTo}
 use Rattle.machine.specs.declared.Machine.{Machine}
@@ -44,9 +44,9 @@ find-none a (r ∷ rows) other h = go (eqb a (r .address)) h (find-none a rows o
 pub record Reads (m : Machine) : Type 0 where
   pub identity : (reading m 0x00 ≡ 0x55) × (reading m 0x01 ≡ 0x10) × (reading m 0x04 ≡ 0x01)
   pub dbccr : reading m 0x0C ≡ dbccrOf (m .shared)
-  pub bstr-0 : reading m 0x10 ≡ bstrOf (bayAt m 0)
+  pub bstr-0 : reading m 0x10 ≡ bstrOf (hides m) (secured m) (bayAt m 0)
   pub bcer-0 : reading m 0x14 ≡ bcerOf (bayAt m 0)
-  pub bstr-1 : isOpen m 1 ≡ true → reading m 0x18 ≡ bstrOf (bayAt m 1)
+  pub bstr-1 : isOpen m 1 ≡ true → reading m 0x18 ≡ bstrOf (hides m) (secured m) (bayAt m 1)
   pub bcer-1 : isOpen m 1 ≡ true → reading m 0x1C ≡ bcerOf (bayAt m 1)
   pub letr : m .shared .«lock_time» < 4 → reading m 0x40 ≡ m .shared .«lock_time»
   pub wait : m .shared .«wait_time» < 256 → reading m 0x42 ≡ m .shared .«wait_time»
@@ -64,7 +64,7 @@ reads m t =
       dbccr = reads-on m t 0x0C;
       bstr-0 = reads-on m t 0x10;
       bcer-0 = reads-on m t 0x14;
-      bstr-1 = λ o. reads-on m t 0x18 ∙ chosen o (bstrOf (bayAt m 1)) 0;
+      bstr-1 = λ o. reads-on m t 0x18 ∙ chosen o (bstrOf (hides m) (secured m) (bayAt m 1)) 0;
       bcer-1 = λ o. reads-on m t 0x1C ∙ chosen o (bcerOf (bayAt m 1)) 0;
       letr = λ l. reads-on m t 0x40 ∙ omega (arith, l);
       wait = λ l. reads-on m t 0x42 ∙ omega (arith, l);
@@ -138,7 +138,7 @@ pub unlocking :
     (i v : ℕ) (m : Machine) → isOpen m i ≡ true → lockMode (m .straps) ≡ true → bayAt m i .control .«lock_ctl» ≡ true → bit 7 v ≡ false
     → bayAt (bcerWrite i v m) i .pulse ≡ pulseTicks (m .shared .«lock_time»)
 unfolding bcerWrite settingOf
-unlocking i v m o mode l h = rw (chosen o, put-bay i) (bcer-pulses v (settingOf m) (bayAt m i) .begins mode l h)
+unlocking i v m o mode l h = rw (chosen o, put-bay i) (bcer-pulses (hides m) v (settingOf m) (bayAt m i) .begins mode l h)
 
 -- ---- closing bay 1
 

@@ -15,7 +15,7 @@ use Rattle.bay.specs.Registers.{controlOf, controlledBay}
 use Rattle.bay.proofs.Taut.{pick, neither}
 use Rattle.bay.proofs.Laws.{sampled}
 use Rattle.bay.proofs.Named.{bstr-clears}
-use Rattle.machine.specs.Record.{bayAt, isOpen}
+use Rattle.machine.specs.Record.{bayAt, isOpen, hides}
 use Rattle.machine.specs.Registers.{settingOf, bcerWrite, written}
 use Rattle.machine.specs.After.{bcerAddress, closes, bayWritten, bayAfter}
 use Rattle.machine.specs.Moves.{movesBay}
@@ -30,8 +30,8 @@ use Rattle.machine.proofs.Map.{takes, closing}
 -- ---- what moves it, and to what: the tables of moves are about tickedBay and controlledBay
 
 pub record Moves (m : Machine) (i : ℕ) : Type 0 where
-  pub tick : isOpen m i ≡ true → bayAt (does Tick m) i ≡ tickedBay (settingOf m) (bayAt m i)
-  pub bcer : (v : ℕ) → isOpen m i ≡ true → bayAt (does (Write (bcerAddress i) v) m) i ≡ controlledBay (controlOf v) (settingOf m) (bayAt m i)
+  pub tick : isOpen m i ≡ true → bayAt (does Tick m) i ≡ tickedBay (hides m) (settingOf m) (bayAt m i)
+  pub bcer : (v : ℕ) → isOpen m i ≡ true → bayAt (does (Write (bcerAddress i) v) m) i ≡ controlledBay (hides m) (controlOf v) (settingOf m) (bayAt m i)
   pub closing : (v : ℕ) → closes m 1 0x0C v ≡ true → bayAt (does (Write 0x0C v) m) 1 .state ≡ 0
   pub reset : (straps levels : ℕ) (short : Bool) → bayAt (does (Reset straps levels short) m) i .state ≡ 0
 

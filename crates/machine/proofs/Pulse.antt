@@ -11,9 +11,9 @@ use Rattle.bits.specs.Bits.{bit}
 use Rattle.bits.specs.Straps.{lockMode}
 use Rattle.bay.specs.declared.Bay.{Bay}
 use Rattle.bay.specs.Outputs.{lockPin}
-use Rattle.bay.proofs.Named.{bcer-stores, pulse-falls, lock-pin-mode-1}
+use Rattle.bay.proofs.Named.{bcer-stores, pulse-falls, lock-pin-pulsed}
 use Rattle.bay.proofs.Taut.{pick}
-use Rattle.machine.specs.Record.{bayAt, isOpen, openBy}
+use Rattle.machine.specs.Record.{bayAt, isOpen, openBy, hides}
 use Rattle.machine.specs.Registers.{pulseTicks, settingOf, bcerWrite}
 use Rattle.machine.specs.Acts.{resetTo, tickTo, does, doesAll}
 use Rattle.machine.specs.After.{bcerAddress, bayAfter}
@@ -34,7 +34,7 @@ pulse-left : (n : ℕ) (m : Machine) (i : ℕ) → isOpen m i ≡ true → bayAt
 unfolding doesAll does tickTo bayAfter
 pulse-left zero m i o = omega arith
 pulse-left (suc n) m i o =
-    let one : bayAt (tickTo m) i .pulse ≡ bayAt m i .pulse - 1 = ap (λ (b : Bay). b .pulse) (bay-after Tick m i ∙ chosen o _ _) ∙ pulse-falls (settingOf m) (bayAt m i) in
+    let one : bayAt (tickTo m) i .pulse ≡ bayAt m i .pulse - 1 = ap (λ (b : Bay). b .pulse) (bay-after Tick m i ∙ chosen o _ _) ∙ pulse-falls (hides m) (settingOf m) (bayAt m i) in
     pulse-left n (tickTo m) i o ∙ rw one (omega arith)
 
 straps-stay : (n : ℕ) (m : Machine) → ticked n m .straps ≡ m .straps
@@ -44,15 +44,16 @@ straps-stay (suc n) m = straps-stay n (tickTo m)
 
 -- The lock pin of a bay, in the LOCK_MODE that the machine has.
 abbrev pub pin : Machine → ℕ → Bool
-pin m i = lockPin (lockMode (m .straps)) (bayAt m i)
+pin m i = lockPin (settingOf m) (bayAt m i)
 
 -- In LOCK_MODE 1 the pin of an open bay is low exactly as long as its pulse has ticks left.
 pub pulse-lasts :
     (n : ℕ) (m : Machine) (i : ℕ) → isOpen m i ≡ true → lockMode (m .straps) ≡ true → (pin (ticked n m) i ≡ false) ↔ (n < bayAt m i .pulse)
+unfolding settingOf
 pulse-lasts n m i o mode =
     let left = pulse-left n m i o in
-    let low = lock-pin-mode-1 (bayAt (ticked n m) i) in
-    rw (straps-stay n m, mode) (λ h. omega (arith, left, low .0 h), λ h. low .1 (omega (arith, left, h)))
+    let low = lock-pin-pulsed (settingOf (ticked n m)) (bayAt (ticked n m) i) (ap lockMode (straps-stay n m) ∙ mode) in
+    (λ h. omega (arith, left, low .0 h), λ h. low .1 (omega (arith, left, h)))
 
 -- ---- after a RESET
 
@@ -89,7 +90,7 @@ module _ (straps levels : ℕ) (short : Bool) (i v w : ℕ) (mode : lockMode str
   mode-locked = ap lockMode (write-steady (bcerAddress i) v begun .straps) ∙ mode
 
   lock-ctl : bayAt locked i .control .«lock_ctl» ≡ true
-  lock-ctl = rw (moves begun i .bcer v (reset-open straps levels short i)) (bcer-stores v _ (bayAt begun i) .lock-ctl ∙ locks)
+  lock-ctl = rw (moves begun i .bcer v (reset-open straps levels short i)) (bcer-stores (hides begun) v _ (bayAt begun i) .lock-ctl ∙ locks)
 
   pulse : bayAt (unlocked i v w begun) i .pulse ≡ cond short 12 50
   unfolding does resetTo

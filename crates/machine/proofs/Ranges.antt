@@ -7,9 +7,9 @@ use lib.Dec.{eqb}
 use Rattle.bits.specs.Bits.{put}
 use Rattle.bay.proofs.Taut.{pick}
 use Rattle.bay.proofs.Laws.{bstr-byte, bcer-byte, outputs-nibble}
-use Rattle.machine.specs.Record.{bayAt, isOpen}
+use Rattle.machine.specs.Record.{bayAt, isOpen, hides, secured}
 use Rattle.machine.specs.Outputs.{nibble, wants, outputs}
-use Rattle.machine.specs.Registers.{Row, find, dbccrOf, bstrAt, bcerAt, register, registers, reading}
+use Rattle.machine.specs.Registers.{Row, find, dbccrOf, bstrAt, bcerAt, register, registers, reading, settingOf}
 use Rattle.machine.specs.declared.Machine.{Machine}
 use Rattle.machine.specs.declared.Shared.{Shared}
 
@@ -33,7 +33,7 @@ dbccr-byte r = omega (arith, put-small (r .seclock))
 
 bstr-at-byte : (m : Machine) (i : ℕ) → bstrAt m i < 256
 unfolding bstrAt
-bstr-at-byte m i = pick (λ n. n < 256) (isOpen m i) (λ o. bstr-byte (bayAt m i)) (λ o. omega arith)
+bstr-at-byte m i = pick (λ n. n < 256) (isOpen m i) (λ o. bstr-byte (hides m) (secured m) (bayAt m i)) (λ o. omega arith)
 
 bcer-at-byte : (m : Machine) (i : ℕ) → bcerAt m i < 256
 unfolding bcerAt
@@ -62,7 +62,7 @@ reading-byte m a = pick (λ n. n < 256) (m .started) (λ t. register-byte m a) (
 
 pub nibble-small : (m : Machine) (i : ℕ) → nibble m i < 16
 unfolding nibble
-nibble-small m i = pick (λ n. n < 16) (isOpen m i) (λ o. outputs-nibble _ _ (bayAt m i)) (λ o. omega arith)
+nibble-small m i = pick (λ n. n < 16) (isOpen m i) (λ o. outputs-nibble (hides m) (settingOf m) _ (bayAt m i)) (λ o. omega arith)
 
 pub bit-small : (b : Bool) → put 0 b < 2
 bit-small true = omega arith

@@ -10,7 +10,7 @@ use Rattle.bay.specs.Table.{pressOver}
 use Rattle.bay.proofs.Taut.{pick}
 use Rattle.bay.proofs.Laws.{sampled, pressed-sets}
 use Rattle.bay.proofs.Named.{bcer-stores}
-use Rattle.machine.specs.Record.{bayAt, isOpen}
+use Rattle.machine.specs.Record.{bayAt, isOpen, hides}
 use Rattle.machine.specs.Registers.{settingOf, written}
 use Rattle.machine.specs.Acts.{does}
 use Rattle.machine.specs.After.{bstrAddress, bayAfter}
@@ -25,20 +25,20 @@ write-remreq : (a v : ℕ) (m : Machine) (i : ℕ) → remreq (written a v m) i 
 unfolding bstrWritten emptyBay
 write-remreq a v m i =
     of-write a v m (λ (b : Bay). b .«remreq_sts» ≡ (remreq m i && not (clears m i a v))) i
-    (λ e o. bcer-stores v (settingOf m) (bayAt m i) .flags-kept .0 ∙ rw (e, three i .bcer-bstr, three i .bcer-dbccr) (sym (and-true (remreq m i))))
+    (λ e o. bcer-stores (hides m) v (settingOf m) (bayAt m i) .flags-kept .0 ∙ rw (e, three i .bcer-bstr, three i .bcer-dbccr) (sym (and-true (remreq m i))))
     (λ e o. rw (e, eq-eqb (bstrAddress i) (bstrAddress i) refl, o, three i .bstr-dbccr, or-false))
     (λ k l c. rw (c, or-true) (sym (and-false (remreq m i))))
     (λ k l c. rw (l, c) (sym (and-true (remreq m i))))
 
 -- A closed bay is passed by, so that its button is as it was.
-tick-remreq : (m : Machine) (i : ℕ) → remreq (does Tick m) i ≡ (remreq m i || pressOver (bayAt m i) (bayAt (does Tick m) i))
+tick-remreq : (m : Machine) (i : ℕ) → remreq (does Tick m) i ≡ (remreq m i || pressOver (hides m) (bayAt m i) (bayAt (does Tick m) i))
 unfolding bayAfter
 tick-remreq m i =
     subst P (sym (bay-after Tick m i))
-    (pick P (isOpen m i) (λ o. pressed-sets (settingOf m) (bayAt m i)) (λ o. rw and-not-self (sym (or-false (remreq m i)))))
+    (pick P (isOpen m i) (λ o. pressed-sets (hides m) (settingOf m) (bayAt m i)) (λ o. rw and-not-self (sym (or-false (remreq m i)))))
   where
     P : Bay → Type 0
-    P b = b .«remreq_sts» ≡ (remreq m i || pressOver (bayAt m i) b)
+    P b = b .«remreq_sts» ≡ (remreq m i || pressOver (hides m) (bayAt m i) b)
 
 pub remreq-after : (a : Act) (m : Machine) (i : ℕ) → remreq (does a m) i ≡ remreqAfter m i a
 unfolding does remreqAfter bayAfter resetBay

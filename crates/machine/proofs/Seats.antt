@@ -9,7 +9,7 @@ use lib.Dec.{eqb}
 use borrow.Author.Tests.{eq-eqb, not-true, not-false}
 use Rattle.bits.specs.Bits.{bit}
 use Rattle.bay.specs.declared.Bay.{Bay}
-use Rattle.bay.specs.Record.{present, emptyBay, resetBay}
+use Rattle.bay.specs.Record.{contact, present, emptyBay, resetBay}
 use Rattle.bay.specs.Moves.{tickedBay}
 use Rattle.bay.specs.Registers.{controlOf, asks, controlledBay}
 use Rattle.bay.specs.Table.{asksNothing}
@@ -17,7 +17,7 @@ use Rattle.bay.specs.Happens.{Happens, tick, bcer, happens, happensAll}
 use Rattle.bay.specs.Waits.{breaks, unbroken, ticksOf, Seating, Seated, Broken, Waits}
 use Rattle.bay.proofs.Taut.{pick, neither}
 use Rattle.bay.proofs.Waits.{asks-by, unbroken-more, ticks-more, waits}
-use Rattle.machine.specs.Record.{bay1, bayAt, bayIn, openBy, isOpen}
+use Rattle.machine.specs.Record.{bay1, bayAt, bayIn, openBy, isOpen, hides}
 use Rattle.machine.specs.Registers.{settingOf}
 use Rattle.machine.specs.Acts.{does, doesAll}
 use Rattle.machine.specs.After.{bstrAddress, bcerAddress, closes, bayAfter}
@@ -70,22 +70,22 @@ act-kept (Pins levels) m i e = refl
 act-kept Tick m i e = refl
 act-kept (Reset straps levels short) m i e = e
 
-act-whole : (a : Act) (m : Machine) (i : ℕ) → isOpen m i ≡ true → endsWait m i a ≡ false → unbroken (happensAt m i a) (bayAt m i) ≡ true
-unfolding endsWait happensAt unbroken breaks controlOf
+act-whole : (a : Act) (m : Machine) (i : ℕ) → isOpen m i ≡ true → endsWait m i a ≡ false → unbroken (hides m) (happensAt m i a) (bayAt m i) ≡ true
+unfolding hides endsWait happensAt unbroken breaks controlOf
 act-whole (Write a v) m i o e =
     pick P (eqb a (bcerAddress i) && isOpen m i)
     (λ h.
     let own = and-eq-true-iff (eqb a (bcerAddress i)) (isOpen m i) .0 h .0 in
     let neither-of-both = rw own at (neither (eqb a (bcerAddress i) && clearsOrAsks m i v) (closes m i a v) e .0) in
-    rw (asks-by v (bayAt m i), neither-of-both))
+    rw (asks-by (hides m) v (bayAt m i), neither-of-both))
     (λ _. pick P (eqb a (bstrAddress i) && isOpen m i) (λ _. refl) (λ _. refl))
   where
     P : List Happens → Type 0
-    P xs = unbroken xs (bayAt m i) ≡ true
+    P xs = unbroken (hides m) xs (bayAt m i) ≡ true
 act-whole (Read a) m i o e = refl
 act-whole (Pins levels) m i o e = rw o
 act-whole Tick m i o e =
-    let there = rw (moves m i .tick o) at (not-false (present (bayAt (does Tick m) i)) e) in
+    let there = rw (moves m i .tick o) at (not-false (contact (bayAt (does Tick m) i)) e) in
     rw (o, there, and-false)
 act-whole (Reset straps levels short) m i o e = refl
 
@@ -103,11 +103,11 @@ act-ticks (Reset straps levels short) m i o = refl
 -- So a list of them.
 record Quiet (m : Machine) (i : ℕ) (acts : List Act) : Type 0 where
   kept : remade m i acts ≡ false
-  whole : unbroken (happened m i acts) (bayAt m i) ≡ true
+  whole : unbroken (hides m) (happened m i acts) (bayAt m i) ≡ true
   ticks : ticksOf (happened m i acts) ≡ ticksIn acts
 
 quiet : (acts : List Act) (m : Machine) (i : ℕ) → isOpen m i ≡ true → undisturbed m i acts ≡ true → Quiet m i acts
-unfolding undisturbed remade happened unbroken
+unfolding hides undisturbed remade happened unbroken
 quiet [] m i o u = record { kept = refl; whole = refl; ticks = refl }
 quiet (a ∷ acts) m i o u =
     let both = and-eq-true-iff (not (endsWait m i a)) (undisturbed (does a m) i acts) .0 u in
@@ -116,7 +116,7 @@ quiet (a ∷ acts) m i o u =
     let more = quiet acts (does a m) i (act-open a m i o k) (both .1) in
     record {
       kept = rw (k, more .kept);
-      whole = unbroken-more (happensAt m i a) (happened (does a m) i acts) (bayAt m i) ∙ rw (act-whole a m i o on, ← act-happens a m i k, more .whole);
+      whole = unbroken-more (hides m) (happensAt m i a) (happened (does a m) i acts) (bayAt m i) ∙ rw (act-whole a m i o on, ← act-happens a m i k, more .whole);
       ticks = ticks-more (happensAt m i a) (happened (does a m) i acts) ∙ rw (act-ticks a m i o, more .ticks);
     }
 
@@ -128,7 +128,7 @@ module _ (m : Machine) (sound : Sound m) (i : ℕ) (runs : 0 < waitOf m i) (acts
   now = doesAll acts m
 
   abbrev by-then : Bay
-  by-then = happensAll (happened m i acts) (bayAt m i)
+  by-then = happensAll (hides m) (happened m i acts) (bayAt m i)
 
   run : Quiet m i acts
   run = quiet acts m i (waits-open m sound i runs) u
@@ -139,50 +139,55 @@ module _ (m : Machine) (sound : Sound m) (i : ℕ) (runs : 0 < waitOf m i) (acts
   still-open : isOpen now i ≡ true
   still-open = open-run acts m i (waits-open m sound i runs) (run .kept)
 
-  ticks-so : bayAt (does Tick now) i ≡ tickedBay (settingOf now) (bayAt now i)
+  ticks-so : bayAt (does Tick now) i ≡ tickedBay (hides now) (settingOf now) (bayAt now i)
   ticks-so = moves now i .tick still-open
 
-  writes-so : (v : ℕ) → bayAt (does (Write (bcerAddress i) v) now) i ≡ controlledBay (controlOf v) (settingOf now) (bayAt now i)
+  writes-so : (v : ℕ) → bayAt (does (Write (bcerAddress i) v) now) i ≡ controlledBay (hides now) (controlOf v) (settingOf now) (bayAt now i)
   writes-so v = moves now i .bcer v still-open
 
-  promise : Waits (waitOf m i) (bayAt m i)
-  promise = waits (bayAt m i) (sound .bays i) runs
+  promise : Waits (hides m) (waitOf m i) (bayAt m i)
+  promise = waits (hides m) (bayAt m i) (sound .bays i) runs
 
-  goes-on : ticksIn acts < waitOf m i → Seating (waitOf m i - ticksIn acts) (bayAt now i)
+  goes-on : ticksIn acts < waitOf m i → Seating (hides m) (waitOf m i - ticksIn acts) (bayAt now i)
   goes-on l = rw (same, ← run .ticks) (promise .goes-on (happened m i acts) (run .whole) (rw (run .ticks) l))
 
-  ends : suc (ticksIn acts) ≡ waitOf m i → present (bayAt (does Tick now) i) ≡ true → Seated (bayAt now i) (bayAt (does Tick now) i)
+  ends : suc (ticksIn acts) ≡ waitOf m i → contact (bayAt (does Tick now) i) ≡ true → Seated (hides m) (bayAt now i) (bayAt (does Tick now) i)
+  unfolding hides
   ends k p =
       let there = rw (ticks-so, same) at p in
-      rw (ticks-so, same) (promise .ends (happened m i acts) (settingOf now) (run .whole) (rw (run .ticks) k) (rw there (and-false (present by-then))))
+      rw (ticks-so, same) (promise .ends (happened m i acts) (settingOf now) (run .whole) (rw (run .ticks) k) (rw there (and-false (contact by-then))))
 
   -- What breaks it off in any of its ticks.
   module _ (l : ticksIn acts < waitOf m i) where
-    device : present by-then ≡ true
+    touches : contact by-then ≡ true
+    touches = promise .goes-on (happened m i acts) (run .whole) (rw (run .ticks) l) .touches
+
+    device : present (hides m) by-then ≡ true
+    unfolding hides
     device = promise .goes-on (happened m i acts) (run .whole) (rw (run .ticks) l) .device
 
-    off : (x : Happens) → breaks x by-then ≡ true → Broken x (happens x by-then)
+    off : (x : Happens) → breaks (hides m) x by-then ≡ true → Broken (hides m) x by-then (happens (hides m) x by-then)
     off x q = promise .broken (happened m i acts) x (run .whole) (rw (run .ticks) l) q
 
-    asks-so : (v : ℕ) → asks (controlOf v) ≡ not (asksNothing v by-then)
-    asks-so v = sym (and-true (asks (controlOf v))) ∙ ap (λ d. asks (controlOf v) && d) (sym device) ∙ asks-by v by-then
+    asks-so : (v : ℕ) → asks (controlOf v) ≡ not (asksNothing (hides m) v by-then)
+    asks-so v = sym (and-true (asks (controlOf v))) ∙ ap (λ d. asks (controlOf v) && d) (sym device) ∙ asks-by (hides m) v by-then
 
-    removal : present (bayAt (does Tick now) i) ≡ false → Over 0 (bayAt (does Tick now) i)
-    unfolding breaks happens
+    removal : contact (bayAt (does Tick now) i) ≡ false → Over 0 (bayAt (does Tick now) i)
+    unfolding hides breaks happens
     removal p =
         let left = rw (ticks-so, same) at p in
-        let broken = off (tick (settingOf now)) (rw (device, left)) in
+        let broken = off (tick (settingOf now)) (rw (touches, left)) in
         rw (ticks-so, same) (record { none = broken .over; stands = broken .unmoved })
 
-    cleared : (v : ℕ) → bit 2 v ≡ false → asksNothing v (bayAt now i) ≡ true → Over 0 (bayAt (does (Write (bcerAddress i) v) now) i)
-    unfolding breaks happens controlOf
+    cleared : (v : ℕ) → bit 2 v ≡ false → asksNothing (hides now) v (bayAt now i) ≡ true → Over 0 (bayAt (does (Write (bcerAddress i) v) now) i)
+    unfolding hides breaks happens controlOf
     cleared v z n =
         let not-asked : asks (controlOf v) ≡ false = asks-so v ∙ ap not (rw same at n) in
         let broken = off (bcer (controlOf v) (settingOf now)) (rw z) in
         rw (writes-so v, same) (record { none = broken .over; stands = broken .unmoved ∙ rw not-asked })
 
-    asked : (v : ℕ) → asksNothing v (bayAt now i) ≡ false → Over (v / 16 % 8) (bayAt (does (Write (bcerAddress i) v) now) i)
-    unfolding breaks happens controlOf
+    asked : (v : ℕ) → asksNothing (hides now) v (bayAt now i) ≡ false → Over (v / 16 % 8) (bayAt (does (Write (bcerAddress i) v) now) i)
+    unfolding hides breaks happens controlOf
     asked v n =
         let wanted : asks (controlOf v) ≡ true = asks-so v ∙ ap not (rw same at n) in
         let broken = off (bcer (controlOf v) (settingOf now)) (rw (wanted, device) (or-true (not (bit 2 v)))) in

@@ -12,7 +12,7 @@ use Rattle.bay.specs.Sound.{Sound as BaySound}
 use Rattle.bay.proofs.Laws.{sampled}
 use Rattle.bay.proofs.Named.{bstr-clears, pulse-falls}
 use Rattle.bay.proofs.Sound.{empty-sound, reset-sound, sampled-sound, ticked-sound, bstr-written-sound, controlled-sound}
-use Rattle.machine.specs.Record.{bayAt, bayIn, openBy, isOpen, freshMachine}
+use Rattle.machine.specs.Record.{bayAt, bayIn, openBy, isOpen, freshMachine, hides}
 use Rattle.machine.specs.Registers.{settingOf, dbccrTo, letrTo, waitTo, written}
 use Rattle.machine.specs.Acts.{resetTo, pinsTo, tickTo, does}
 use Rattle.machine.specs.After.{bayAfter, sharedWritten}
@@ -42,23 +42,24 @@ unfolding emptyBay
 no-pulse-empty = refl
 
 -- In LOCK_MODE 0 a write starts no pulse.
-no-pulse-written : (v : ℕ) (s : Setting) (b : Bay) → s .«lock_mode» ≡ false → b .pulse ≡ 0 → controlledBay (controlOf v) s b .pulse ≡ 0
+no-pulse-written : (hides : Bool) (v : ℕ) (s : Setting) (b : Bay) → s .pulsed ≡ false → b .pulse ≡ 0 → controlledBay hides (controlOf v) s b .pulse ≡ 0
 unfolding controlledBay pulseWritten
-no-pulse-written v s b m z = rw m z
+no-pulse-written hides v s b m z = rw m z
 
-bays-sound : (a : Act) (m : Machine) → Sound m → (i : ℕ) → BaySound (bayAt (does a m) i)
+bays-sound : (a : Act) (m : Machine) → Sound m → (i : ℕ) → BaySound (hides (does a m)) (bayAt (does a m) i)
+unfolding hides
 bays-sound a m h i =
     let sound = h .bays i in
-    after-act BaySound m i reset-sound empty-sound (λ levels. sampled-sound levels (bayAt m i) sound) (ticked-sound (settingOf m) (bayAt m i) sound)
-    (λ v. bstr-written-sound v (bayAt m i) sound) (λ v. controlled-sound _ (settingOf m) (bayAt m i) sound) sound a
+    after-act (BaySound (hides m)) m i (reset-sound (hides m)) (empty-sound (hides m)) (λ levels. sampled-sound (hides m) levels (bayAt m i) sound) (ticked-sound (hides m) (settingOf m) (bayAt m i) sound)
+    (λ v. bstr-written-sound (hides m) v (bayAt m i) sound) (λ v. controlled-sound (hides m) _ (settingOf m) (bayAt m i) sound) sound a
 
 no-pulses : (a : Act) (m : Machine) → Sound m → lockMode (m .straps) ≡ false → (i : ℕ) → bayAt (does a m) i .pulse ≡ 0
 unfolding NoPulse settingOf
 no-pulses a m h z i =
     let none = h .pulses z i in
     after-act NoPulse m i no-pulse-reset no-pulse-empty (λ levels. sampled levels (bayAt m i) .pulse-kept ∙ none)
-    (pulse-falls (settingOf m) (bayAt m i) ∙ rw none) (λ v. bstr-clears v (bayAt m i) .pulse-kept ∙ none)
-    (λ v. no-pulse-written v (settingOf m) (bayAt m i) z none) none a
+    (pulse-falls (hides m) (settingOf m) (bayAt m i) ∙ rw none) (λ v. bstr-clears v (bayAt m i) .pulse-kept ∙ none)
+    (λ v. no-pulse-written (hides m) v (settingOf m) (bayAt m i) z none) none a
 
 -- ---- acts
 
@@ -67,7 +68,7 @@ unfolding resetTo openBy NoPulse
 reset-keeps straps levels short l =
     record {
       fit = fits-kept .by-reset straps levels short l;
-      bays = each BaySound (resetTo straps levels short .bays) (reset-sound _ _) (reset-sound _ _);
+      bays = each (BaySound (hides (resetTo straps levels short))) (resetTo straps levels short .bays) (reset-sound _ _ _) (reset-sound _ _ _);
       closed = λ o. absurd (true≢false o);
       pulses = λ z. each NoPulse (resetTo straps levels short .bays) (no-pulse-reset _ _) (no-pulse-reset _ _);
       untouched = λ f. absurd (true≢false f);
@@ -144,7 +145,7 @@ unfolding freshMachine bayIn openBy NoPulse
 fresh-sound =
     record {
       fit = fresh-fit;
-      bays = each BaySound (freshMachine .bays) empty-sound empty-sound;
+      bays = each (BaySound (hides freshMachine)) (freshMachine .bays) (empty-sound (hides freshMachine)) (empty-sound (hides freshMachine));
       closed = λ o. absurd (true≢false o);
       pulses = λ z. each NoPulse (freshMachine .bays) no-pulse-empty no-pulse-empty;
       untouched = λ f. refl;

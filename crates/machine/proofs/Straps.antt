@@ -7,7 +7,8 @@ use Rattle.bits.specs.Straps.{lockDef, lockMode}
 use Rattle.bits.proofs.Named.{allStraps, whatever}
 use Rattle.bay.specs.Record.{resetBay}
 use Rattle.bay.specs.Outputs.{lockPin, green, yellow, bayOutputs, interrupts}
-use Rattle.machine.specs.Record.{bayAt, bayIn, openBy}
+use Rattle.machine.specs.Record.{bayAt, bayIn, openBy, hides}
+use Rattle.machine.specs.Registers.{settingOf}
 use Rattle.machine.specs.Outputs.{nibble, wants, outputs}
 use Rattle.machine.specs.Acts.{resetTo}
 
@@ -19,5 +20,5 @@ pub record LockStraps : Type 0 where
   pub lock-pins : (short : Bool) → map (λ s. outputs (resetTo s 0xFF short)) allStraps ≡ whatever (0 ∷ 0x88 ∷ 0x88 ∷ 0x88 ∷ [])
 
 pub lock-straps : LockStraps
-unfolding resetTo bayIn resetBay openBy lockDef lockMode outputs nibble wants bayOutputs interrupts lockPin green yellow
+unfolding resetTo bayIn hides settingOf resetBay openBy lockDef lockMode outputs nibble wants bayOutputs interrupts lockPin green yellow
 lock-straps = record { lock-ctl-0 = λ l short. refl; lock-ctl-1 = λ l short. refl; lock-pins = λ short. refl }

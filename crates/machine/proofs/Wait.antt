@@ -7,7 +7,7 @@ use lib.Dec.{eqb}
 use borrow.Author.Tests.{eqb-true, eq-eqb, ne-eqb}
 use Rattle.bits.specs.Bits.{bit}
 use Rattle.bay.specs.declared.Bay.{Bay}
-use Rattle.bay.specs.Record.{present, emptyBay, resetBay}
+use Rattle.bay.specs.Record.{contact, present, emptyBay, resetBay}
 use Rattle.bay.specs.Moves.{tickedBay}
 use Rattle.bay.specs.Table.{asksNothing}
 use Rattle.bay.specs.Waits.{waitTicked, waitWrittenBy}
@@ -15,7 +15,7 @@ use Rattle.bay.proofs.Taut.{pick}
 use Rattle.bay.proofs.Laws.{wait-ticked, sampled}
 use Rattle.bay.proofs.Named.{bstr-clears}
 use Rattle.bay.proofs.Waits.{wait-written}
-use Rattle.machine.specs.Record.{bayAt, isOpen}
+use Rattle.machine.specs.Record.{bayAt, isOpen, hides}
 use Rattle.machine.specs.Registers.{settingOf, written}
 use Rattle.machine.specs.Acts.{resetTo, pinsTo, tickTo, does}
 use Rattle.machine.specs.After.{bcerAddress, closes, bayAfter, sharedWritten}
@@ -53,12 +53,12 @@ wait-time-after (Reset straps levels short) m = refl
 write-wait :
     (a v : ℕ) (m : Machine) (i : ℕ)
     → waitOf (written a v m) i
-    ≡ cond (eqb a (bcerAddress i) && isOpen m i) (waitWrittenBy v (settingOf m) (bayAt m i)) (cond (closes m i a v) 0 (waitOf m i))
+    ≡ cond (eqb a (bcerAddress i) && isOpen m i) (waitWrittenBy (hides m) v (settingOf m) (bayAt m i)) (cond (closes m i a v) 0 (waitOf m i))
 unfolding emptyBay
 write-wait a v m i =
     of-write a v m
-    (λ (b : Bay). b .wait ≡ cond (eqb a (bcerAddress i) && isOpen m i) (waitWrittenBy v (settingOf m) (bayAt m i)) (cond (closes m i a v) 0 (waitOf m i)))
-    i (λ e o. wait-written v (settingOf m) (bayAt m i) ∙ rw (e, eq-eqb (bcerAddress i) (bcerAddress i) refl, o))
+    (λ (b : Bay). b .wait ≡ cond (eqb a (bcerAddress i) && isOpen m i) (waitWrittenBy (hides m) v (settingOf m) (bayAt m i)) (cond (closes m i a v) 0 (waitOf m i)))
+    i (λ e o. wait-written (hides m) v (settingOf m) (bayAt m i) ∙ rw (e, eq-eqb (bcerAddress i) (bcerAddress i) refl, o))
     (λ e o. bstr-clears v (bayAt m i) .wait-kept ∙ rw (e, three i .bstr-bcer, three i .bstr-dbccr))
     (λ k l c. rw (k, c))
     (λ k l c. rw (k, c))
@@ -75,7 +75,7 @@ wait-after (Read a) m i = refl
 wait-after (Pins levels) m i = pins-keep (λ b. b .wait) (λ levels b. sampled levels b .wait-kept) levels m i
 wait-after Tick m i =
     ap (λ (b : Bay). b .wait) (bay-after Tick m i) ∙ of-picked (isOpen m i) _ _
-    ∙ ap (λ n. cond (isOpen m i) n (waitOf m i)) (wait-ticked (settingOf m) (bayAt m i))
+    ∙ ap (λ n. cond (isOpen m i) n (waitOf m i)) (wait-ticked (hides m) (settingOf m) (bayAt m i))
 wait-after (Reset straps levels short) m i = ap (λ (b : Bay). b .wait) (bay-after (Reset straps levels short) m i)
 
 -- ---- what a wait begins with: 42h
@@ -86,16 +86,16 @@ module _ (m : Machine) (i : ℕ) (o : isOpen m i ≡ true) (above : 0 < waitTime
 
   -- In the TICK of an arrival with DEVSTSCHG_EN.
   pub arrival-begins :
-      bayAt m i .control .«devstschg_en» ≡ true → present (bayAt m i) ≡ false → present (bayAt (does Tick m) i) ≡ true → waitOf (does Tick m) i ≡ waitTime m
-  unfolding waitAfter waitTicked settingOf bayAfter
+      bayAt m i .control .«devstschg_en» ≡ true → contact (bayAt m i) ≡ false → contact (bayAt (does Tick m) i) ≡ true → waitOf (does Tick m) i ≡ waitTime m
+  unfolding waitAfter waitTicked settingOf bayAfter hides
   arrival-begins on p q =
-      let device : present (tickedBay (settingOf m) (bayAt m i)) ≡ true = sym (ap present (bay-after Tick m i ∙ chosen o _ _)) ∙ q in
+      let device : contact (tickedBay (hides m) (settingOf m) (bayAt m i)) ≡ true = sym (ap contact (bay-after Tick m i ∙ chosen o _ _)) ∙ q in
       wait-after Tick m i ∙ chosen o _ _ ∙ rw (p, device, on, above-0)
 
   -- At the write of BCER that brings DEVSTSCHG_EN, bit 2, from 0 to 1 in Empty over a device and asks for nothing.
   pub enable-begins :
-      (v : ℕ) → bit 2 v ≡ true → asksNothing v (bayAt m i) ≡ true → bayAt m i .control .«devstschg_en» ≡ false → bayAt m i .state ≡ 0
-      → present (bayAt m i) ≡ true → waitOf (does (Write (bcerAddress i) v) m) i ≡ waitTime m
-  unfolding waitAfter waitWrittenBy settingOf
+      (v : ℕ) → bit 2 v ≡ true → asksNothing (hides m) v (bayAt m i) ≡ true → bayAt m i .control .«devstschg_en» ≡ false → bayAt m i .state ≡ 0
+      → present (hides m) (bayAt m i) ≡ true → waitOf (does (Write (bcerAddress i) v) m) i ≡ waitTime m
+  unfolding waitAfter waitWrittenBy settingOf hides
   enable-begins v on none off e p =
       wait-after (Write (bcerAddress i) v) m i ∙ rw (eq-eqb (bcerAddress i) (bcerAddress i) refl) (chosen o _ _ ∙ rw (on, none, p, eq-eqb (bayAt m i .state) 0 e, off, above-0))

@@ -8,7 +8,7 @@ use Rattle.bay.specs.declared.Bay.{Bay}
 use Rattle.bay.specs.Record.{resetBay}
 use Rattle.bay.specs.Debounce.{sampledBay}
 use Rattle.bay.specs.Moves.{tickedBay, rests}
-use Rattle.machine.specs.Record.{PHASES, LIT, bayIn, bayAt, isOpen, become, withBays, unwritten}
+use Rattle.machine.specs.Record.{PHASES, LIT, bayIn, bayAt, isOpen, hides, become, withBays, unwritten}
 use Rattle.machine.specs.Registers.{settingOf, written}
 use Rattle.machine.specs.declared.Machine.{Machine}
 use Rattle.machine.specs.declared.Act.{Act}
@@ -39,7 +39,7 @@ unfoldable pub sampledAt : Machine → ℕ → ℕ → Bay
 sampledAt m i levels = cond (isOpen m i) (sampledBay levels (bayAt m i)) (bayAt m i)
 
 unfoldable pub tickedAt : Machine → ℕ → Bay
-tickedAt m i = cond (isOpen m i) (tickedBay (settingOf m) (bayAt m i)) (bayAt m i)
+tickedAt m i = cond (isOpen m i) (tickedBay (hides m) (settingOf m) (bayAt m i)) (bayAt m i)
 
 -- PINS: bay 0's levels are bits 7-4.
 unfoldable pub pinsTo : ℕ → Machine → Machine

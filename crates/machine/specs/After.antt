@@ -8,7 +8,7 @@ use Rattle.bay.specs.Record.{emptyBay, resetBay}
 use Rattle.bay.specs.Debounce.{sampledBay}
 use Rattle.bay.specs.Moves.{tickedBay}
 use Rattle.bay.specs.Registers.{bstrWritten, controlOf, controlledBay}
-use Rattle.machine.specs.Record.{bayAt, isOpen}
+use Rattle.machine.specs.Record.{bayAt, isOpen, hides}
 use Rattle.machine.specs.Registers.{settingOf, dbccrTo, letrTo, waitTo}
 use Rattle.machine.specs.Acts.{lockAfterReset}
 use Rattle.machine.specs.declared.Machine.{Machine}
@@ -34,7 +34,7 @@ ownLevels i levels = cond (eqb i 0) (levels / 16) (levels % 16)
 -- A write of its BCER or its BSTR while it is open, and the one that closes it. No other touches it, be it of LETR or of 42h.
 unfoldable pub bayWritten : Machine → ℕ → ℕ → ℕ → Bay
 bayWritten m i a v =
-    cond (eqb a (bcerAddress i) && isOpen m i) (controlledBay (controlOf v) (settingOf m) (bayAt m i))
+    cond (eqb a (bcerAddress i) && isOpen m i) (controlledBay (hides m) (controlOf v) (settingOf m) (bayAt m i))
     (cond (eqb a (bstrAddress i) && isOpen m i) (bstrWritten v (bayAt m i)) (cond (closes m i a v) emptyBay (bayAt m i)))
 
 -- PINS and TICK while it is open, and RESET.
@@ -42,7 +42,7 @@ unfoldable pub bayAfter : Machine → ℕ → Act → Bay
 bayAfter m i (Write a v) = bayWritten m i a v
 bayAfter m i (Read a) = bayAt m i
 bayAfter m i (Pins levels) = cond (isOpen m i) (sampledBay (ownLevels i levels) (bayAt m i)) (bayAt m i)
-bayAfter m i Tick = cond (isOpen m i) (tickedBay (settingOf m) (bayAt m i)) (bayAt m i)
+bayAfter m i Tick = cond (isOpen m i) (tickedBay (hides m) (settingOf m) (bayAt m i)) (bayAt m i)
 bayAfter m i (Reset straps levels short) = resetBay (ownLevels i levels) (lockAfterReset straps)
 
 -- The shared registers: DBCCR by its first write, LETR and 42h by any.

@@ -1,6 +1,6 @@
 pub mod Record
-pub mod Outputs
 pub mod Registers
+pub mod Outputs
 pub mod Acts
 pub mod After
 pub mod Sound

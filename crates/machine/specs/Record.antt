@@ -1,6 +1,6 @@
 -- The machine's record: fresh, fit, and its parts by name (document 01, "Replies and refusal numbers" and "Registers").
 use Prim.Native.Nat.{ℕ}
-use mathlib.Core.Bool.{Bool, false, not, cond, _&&_, _||_}
+use mathlib.Core.Bool.{Bool, true, false, not, cond, _&&_, _||_}
 use mathlib.Core.List.{List, [], _∷_}
 use lib.Dec.{eqb, ltb, leb}
 use lib.ListN.{getD}
@@ -54,6 +54,16 @@ openBy count i = eqb i 0 || not (eqb count ONE-BAY)
 
 abbrev pub isOpen : Machine → ℕ → Bool
 isOpen m i = openBy (m .shared .«bay_count») i
+
+-- ---- what this kind of controller makes of the rules of a bay (document 03, "Bay moves")
+
+-- A wait doesn't hide the device: present stays contact (document 02, request 6).
+unfoldable pub hides : Machine → Bool
+hides m = false
+
+-- The security lock always shows in BSTR.
+unfoldable pub secured : Machine → Bool
+secured m = true
 
 -- ---- what acts change
 

@@ -1,6 +1,6 @@
 -- The register map (document 01, "Registers"; document 001, Table 5; document 02, request 6).
 use Prim.Native.Nat.{ℕ, _+_, _%_}
-use mathlib.Core.Bool.{true, cond}
+use mathlib.Core.Bool.{true, false, cond}
 use mathlib.Core.List.{List, [], _∷_}
 use lib.Dec.{eqb}
 use lib.ListN.{getD}
@@ -9,7 +9,7 @@ use Rattle.bits.specs.Straps.{lockMode}
 use Rattle.bay.specs.Record.{emptyBay}
 use Rattle.bay.specs.declared.Setting.{Setting}
 use Rattle.bay.specs.Registers.{bstrOf, bcerOf, bstrWritten, controlOf, controlledBay}
-use Rattle.machine.specs.Record.{ONE-BAY, bayAt, isOpen, become, withBay}
+use Rattle.machine.specs.Record.{ONE-BAY, bayAt, isOpen, hides, secured, become, withBay}
 use Rattle.machine.specs.declared.Machine.{Machine}
 use Rattle.machine.specs.declared.Shared.{Shared}
 
@@ -31,7 +31,7 @@ dbccrOf r = r .«bay_count» % 4 + put 4 (r .seclock)
 
 -- BSTR and BCER of a bay; of a closed one they read 0.
 unfoldable pub bstrAt : Machine → ℕ → ℕ
-bstrAt m i = cond (isOpen m i) (bstrOf (bayAt m i)) 0
+bstrAt m i = cond (isOpen m i) (bstrOf (hides m) (secured m) (bayAt m i)) 0
 
 unfoldable pub bcerAt : Machine → ℕ → ℕ
 bcerAt m i = cond (isOpen m i) (bcerOf (bayAt m i)) 0
@@ -90,17 +90,22 @@ waitTo v r =
 unfoldable pub waitWrite : ℕ → Machine → Machine
 waitWrite v m = become (waitTo v (m .shared)) (m .phase) (m .bays) m
 
--- What LOCK_MODE, LETR and 42h are for a bay.
+-- What LOCK_MODE, LETR and 42h are for a bay: in LOCK_MODE 1 the lock is pulsed, low for LETR's ticks, and a device seats for those of 42h.
 unfoldable pub settingOf : Machine → Setting
 settingOf m =
-    record { «lock_mode» = lockMode (m .straps); «pulse_ticks» = pulseTicks (m .shared .«lock_time»); «wait_ticks» = m .shared .«wait_time» }
+    record {
+      pulsed = lockMode (m .straps);
+      «pulse_high» = false;
+      «pulse_ticks» = pulseTicks (m .shared .«lock_time»);
+      «wait_ticks» = m .shared .«wait_time»;
+    }
 
 -- BSTR and BCER of a closed bay take no write.
 unfoldable pub bstrWrite : ℕ → ℕ → Machine → Machine
 bstrWrite i v m = cond (isOpen m i) (withBay i (bstrWritten v (bayAt m i)) m) m
 
 unfoldable pub bcerWrite : ℕ → ℕ → Machine → Machine
-bcerWrite i v m = cond (isOpen m i) (withBay i (controlledBay (controlOf v) (settingOf m) (bayAt m i)) m) m
+bcerWrite i v m = cond (isOpen m i) (withBay i (controlledBay (hides m) (controlOf v) (settingOf m) (bayAt m i)) m) m
 
 -- What a write does, by address.
 unfoldable pub writes : ℕ → Machine → List (Row Machine)

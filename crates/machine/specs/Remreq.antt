@@ -4,7 +4,7 @@ use mathlib.Core.Bool.{Bool, false, not, _&&_, _||_}
 use lib.Dec.{eqb}
 use Rattle.bits.specs.Bits.{bit}
 use Rattle.bay.specs.Table.{pressOver}
-use Rattle.machine.specs.Record.{bayAt, isOpen}
+use Rattle.machine.specs.Record.{bayAt, isOpen, hides}
 use Rattle.machine.specs.Acts.{does}
 use Rattle.machine.specs.After.{bstrAddress, closes}
 use Rattle.machine.specs.declared.Machine.{Machine}
@@ -23,5 +23,5 @@ unfoldable pub remreqAfter : Machine → ℕ → Act → Bool
 remreqAfter m i (Write a v) = remreq m i && not (clears m i a v)
 remreqAfter m i (Read a) = remreq m i
 remreqAfter m i (Pins levels) = remreq m i
-remreqAfter m i Tick = remreq m i || pressOver (bayAt m i) (bayAt (does Tick m) i)
+remreqAfter m i Tick = remreq m i || pressOver (hides m) (bayAt m i) (bayAt (does Tick m) i)
 remreqAfter m i (Reset straps levels short) = false

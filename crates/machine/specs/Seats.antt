@@ -5,11 +5,11 @@ use mathlib.Core.Bool.{Bool, true, false, not, _&&_, _||_}
 use mathlib.Core.List.{List, [], _∷_}
 use lib.Dec.{eqb}
 use Rattle.bits.specs.Bits.{bit}
-use Rattle.bay.specs.Record.{present}
+use Rattle.bay.specs.Record.{contact}
 use Rattle.bay.specs.Table.{asksNothing}
 use Rattle.bay.specs.Waits.{Seating, Seated}
 use Rattle.bay.specs.declared.Bay.{Bay}
-use Rattle.machine.specs.Record.{bayAt}
+use Rattle.machine.specs.Record.{bayAt, hides}
 use Rattle.machine.specs.Acts.{does, doesAll}
 use Rattle.machine.specs.After.{bcerAddress, closes}
 use Rattle.machine.specs.declared.Machine.{Machine}
@@ -18,7 +18,7 @@ use Rattle.machine.specs.declared.Act.the-variants.{Write, Read, Pins, T
 
 -- A byte written to the bay's BCER: DEVSTSCHG_EN, bit 2, is written 0, or a state is asked for with a device present.
 abbrev pub clearsOrAsks : Machine → ℕ → ℕ → Bool
-clearsOrAsks m i v = not (bit 2 v) || not (asksNothing v (bayAt m i))
+clearsOrAsks m i v = not (bit 2 v) || not (asksNothing (hides m) v (bayAt m i))
 
 -- What ends a wait: such a write, closing the bay, a TICK after which the device isn't there, and RESET. No other act does, whatever it
 -- writes, 42h and the other bay's registers included.
@@ -26,7 +26,7 @@ unfoldable pub endsWait : Machine → ℕ → Act → Bool
 endsWait m i (Write a v) = eqb a (bcerAddress i) && clearsOrAsks m i v || closes m i a v
 endsWait m i (Read a) = false
 endsWait m i (Pins levels) = false
-endsWait m i Tick = not (present (bayAt (does Tick m) i))
+endsWait m i Tick = not (contact (bayAt (does Tick m) i))
 endsWait m i (Reset straps levels short) = true
 
 -- None of these acts does.
@@ -54,11 +54,11 @@ pub record Over (state : ℕ) (b : Bay) : Type 0 where
 -- Each of them ends one, and where the bay is then.
 pub record BrokenOff (m : Machine) (i : ℕ) : Type 0 where
   -- Removal.
-  pub removal : present (bayAt (does Tick m) i) ≡ false → Over 0 (bayAt (does Tick m) i)
+  pub removal : contact (bayAt (does Tick m) i) ≡ false → Over 0 (bayAt (does Tick m) i)
   -- DEVSTSCHG_EN, bit 2 of BCER, written 0.
-  pub cleared : (v : ℕ) → bit 2 v ≡ false → asksNothing v (bayAt m i) ≡ true → Over 0 (bayAt (does (Write (bcerAddress i) v) m) i)
+  pub cleared : (v : ℕ) → bit 2 v ≡ false → asksNothing (hides m) v (bayAt m i) ≡ true → Over 0 (bayAt (does (Write (bcerAddress i) v) m) i)
   -- A driver's request, bits 6-4: the bay goes where it is asked to.
-  pub asked : (v : ℕ) → asksNothing v (bayAt m i) ≡ false → Over (v / 16 % 8) (bayAt (does (Write (bcerAddress i) v) m) i)
+  pub asked : (v : ℕ) → asksNothing (hides m) v (bayAt m i) ≡ false → Over (v / 16 % 8) (bayAt (does (Write (bcerAddress i) v) m) i)
   -- Closing the bay.
   pub closed : (v : ℕ) → closes m i 0x0C v ≡ true → Over 0 (bayAt (does (Write 0x0C v) m) i)
   -- RESET.
@@ -67,10 +67,10 @@ pub record BrokenOff (m : Machine) (i : ℕ) : Type 0 where
 -- The promise, of a wait of n ticks in bay i.
 pub record Seats (n : ℕ) (m : Machine) (i : ℕ) : Type 0 where
   -- Until its last tick the device seats.
-  pub goes-on : (acts : List Act) → undisturbed m i acts ≡ true → ticksIn acts < n → Seating (n - ticksIn acts) (bayAt (doesAll acts m) i)
+  pub goes-on : (acts : List Act) → undisturbed m i acts ≡ true → ticksIn acts < n → Seating (hides m) (n - ticksIn acts) (bayAt (doesAll acts m) i)
   -- In its last tick the bay is Inserted, unless the device leaves.
   pub ends :
-      (acts : List Act) → undisturbed m i acts ≡ true → suc (ticksIn acts) ≡ n → present (bayAt (does Tick (doesAll acts m)) i) ≡ true
-      → Seated (bayAt (doesAll acts m) i) (bayAt (does Tick (doesAll acts m)) i)
+      (acts : List Act) → undisturbed m i acts ≡ true → suc (ticksIn acts) ≡ n → contact (bayAt (does Tick (doesAll acts m)) i) ≡ true
+      → Seated (hides m) (bayAt (doesAll acts m) i) (bayAt (does Tick (doesAll acts m)) i)
   -- In any of them it can be broken off.
   pub broken : (acts : List Act) → undisturbed m i acts ≡ true → ticksIn acts < n → BrokenOff (doesAll acts m) i

@@ -5,13 +5,13 @@ use mathlib.Core.Bool.{true, false}
 use Rattle.bits.specs.Straps.{lockMode}
 use Rattle.bay.specs.Record.{emptyBay}
 use Rattle.bay.specs.Sound.{Sound as BaySound}
-use Rattle.machine.specs.Record.{fits, bayAt, isOpen, freshMachine}
+use Rattle.machine.specs.Record.{fits, bayAt, isOpen, hides, freshMachine}
 use Rattle.machine.specs.declared.Machine.{Machine}
 
 pub record Sound (m : Machine) : Type 0 where
   pub fit : fits m ≡ true
   -- Each bay is powered only over a locked device, holds a device unless Empty, and so on.
-  pub bays : (i : ℕ) → BaySound (bayAt m i)
+  pub bays : (i : ℕ) → BaySound (hides m) (bayAt m i)
   -- A closed bay's record is empty.
   pub closed : isOpen m 1 ≡ false → bayAt m 1 ≡ emptyBay
   -- In LOCK_MODE 0 no pulse runs.

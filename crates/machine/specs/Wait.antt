@@ -3,7 +3,7 @@ use Prim.Native.Nat.{ℕ}
 use mathlib.Core.Bool.{cond, _&&_}
 use lib.Dec.{eqb}
 use Rattle.bay.specs.Waits.{waitTicked, waitWrittenBy}
-use Rattle.machine.specs.Record.{bayAt, isOpen}
+use Rattle.machine.specs.Record.{bayAt, isOpen, hides}
 use Rattle.machine.specs.Registers.{settingOf}
 use Rattle.machine.specs.After.{bcerAddress, closes}
 use Rattle.machine.specs.declared.Machine.{Machine}
@@ -28,8 +28,8 @@ waitOf m i = bayAt m i .wait
 -- alters it: no new value of 42h, no write of BSTR, no sample.
 unfoldable pub waitAfter : Machine → ℕ → Act → ℕ
 waitAfter m i (Write a v) =
-    cond (eqb a (bcerAddress i) && isOpen m i) (waitWrittenBy v (settingOf m) (bayAt m i)) (cond (closes m i a v) 0 (waitOf m i))
+    cond (eqb a (bcerAddress i) && isOpen m i) (waitWrittenBy (hides m) v (settingOf m) (bayAt m i)) (cond (closes m i a v) 0 (waitOf m i))
 waitAfter m i (Read a) = waitOf m i
 waitAfter m i (Pins levels) = waitOf m i
-waitAfter m i Tick = cond (isOpen m i) (waitTicked (settingOf m) (bayAt m i)) (waitOf m i)
+waitAfter m i Tick = cond (isOpen m i) (waitTicked (hides m) (settingOf m) (bayAt m i)) (waitOf m i)
 waitAfter m i (Reset straps levels short) = 0

@@ -1,6 +1,6 @@
 // What each act does to a machine (document 01).
 ghost use mathlib.Core.Path.{_≡_};
-ghost use mathlib.Core.Bool.{cond, true};
+ghost use mathlib.Core.Bool.{Bool, cond, true};
 ghost use Prim.Native.Nat.{ℕ};
 ghost use Rattle.bay.specs.Debounce.{sampledBay};
 ghost use Rattle.bay.specs.Moves.{tickedBay, movedBay};
@@ -43,16 +43,20 @@ fn sampled(open: bool, bay: Bay, levels: u8) -> Bay
 }
 
 // A bay after a tick, with its inputs. A closed bay is passed by.
-fn moved(open: bool, bay: Bay, ticks: u8, inputs: Inputs) -> Bay
-    ensures { λ r. ⌜ r ≡ cond «open» (movedBay ticks bay (inputs .n1394) (inputs .nusb) (inputs .nremreq)) bay ⌝ }
+fn moved(open: bool, hides: bool, bay: Bay, ticks: u8, inputs: Inputs) -> Bay
+    ensures { λ r. ⌜ r ≡ cond «open» (movedBay hides ticks bay (inputs .n1394) (inputs .nusb) (inputs .nremreq)) bay ⌝ }
 {
-    if open { bay.moved(ticks, inputs) } else { bay }
+    if open {
+        bay.moved(hides, ticks, inputs)
+    } else {
+        bay
+    }
 }
 
 // A tick finds nothing to do in either bay, and leaves both as they are.
 fn rest(bays: [Bay; 2]) -> bool
     ensures { λ r. ⌜ r ≡ restful bays ⌝ }
-    ensures { λ r. ⌜ (r ≡ true → (s : Setting) → (i : ℕ) → tickedBay s (bayIn bays i) ≡ bayIn bays i) ⌝ }
+    ensures { λ r. ⌜ (r ≡ true → (hides : Bool) (s : Setting) (i : ℕ) → tickedBay hides s (bayIn bays i) ≡ bayIn bays i) ⌝ }
 {
     bays[0].rests() & bays[1].rests()
 }
@@ -111,6 +115,7 @@ impl Machine {
                 keeps: (self.phase < Machine::LIT) == (phase < Machine::LIT),
             };
         }
+        let hides = self.hides();
         let ticks = self.shared.wait_time;
         let first = bays[0].inputs();
         let second = bays[1].inputs();
@@ -121,8 +126,14 @@ impl Machine {
                 shared,
                 phase,
                 bays: [
-                    bays[0].moved(ticks, first),
-                    moved(is_open(self.shared.bay_count, 1), bays[1], ticks, second),
+                    bays[0].moved(hides, ticks, first),
+                    moved(
+                        is_open(self.shared.bay_count, 1),
+                        hides,
+                        bays[1],
+                        ticks,
+                        second,
+                    ),
                 ],
             },
             keeps: false,

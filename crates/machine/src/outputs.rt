@@ -6,13 +6,17 @@ ghost use Rattle.machine.specs.Outputs.{outputs};
 use crate::Machine;
 use crate::record::is_open;
 use bay::Bay;
-use bits::straps::lock_mode;
+use bay::Setting;
 
 // Power, lock pin, green and yellow of a bay; 0 of a closed one.
-fn nibble(open: bool, bay: Bay, lock_mode: bool, lit: bool) -> u8
-    ensures { λ r. ⌜ r ≡ cond «open» (bayOutputs «lock_mode» lit bay) 0 ⌝ }
+fn nibble(open: bool, bay: Bay, hides: bool, setting: Setting, lit: bool) -> u8
+    ensures { λ r. ⌜ r ≡ cond «open» (bayOutputs hides setting lit bay) 0 ⌝ }
 {
-    if open { bay.outputs(lock_mode, lit) } else { 0 }
+    if open {
+        bay.outputs(hides, setting, lit)
+    } else {
+        0
+    }
 }
 
 // An open bay asks for the host.
@@ -32,10 +36,11 @@ impl Machine {
         }
         let bays = self.bays;
         let open = is_open(self.shared.bay_count, 1);
-        let mode = lock_mode(self.straps);
+        let hides = self.hides();
+        let setting = self.setting();
         let lit = self.phase < Machine::LIT;
-        let both = bays[0].outputs(mode, lit) as u16 * 32
-            + nibble(open, bays[1], mode, lit) as u16 * 2;
+        let both = bays[0].outputs(hides, setting, lit) as u16 * 32
+            + nibble(open, bays[1], hides, setting, lit) as u16 * 2;
         if bays[0].interrupt() | wants(open, bays[1]) {
             both + 1
         } else {

@@ -1,6 +1,6 @@
 // The machine's record: fresh, fit, and its bays by number.
 ghost use mathlib.Core.Path.{_≡_};
-ghost use Rattle.machine.specs.Record.{unwritten, freshMachine, fits, sharedFit, bayIn, openBy};
+ghost use Rattle.machine.specs.Record.{unwritten, freshMachine, fits, sharedFit, bayIn, openBy, hides, secured};
 use crate::Machine;
 use crate::Shared;
 use bay::Bay;
@@ -18,6 +18,20 @@ impl Machine {
             phase: 0,
             bays: [Bay::empty(), Bay::empty()],
         }
+    }
+
+    // Whether a wait hides the device, in this kind of controller.
+    pub(crate) fn hides(self) -> bool
+        ensures { λ r. ⌜ r ≡ hides self ⌝ }
+    {
+        false
+    }
+
+    // Whether the security lock shows in BSTR.
+    pub(crate) fn secured(self) -> bool
+        ensures { λ r. ⌜ r ≡ secured self ⌝ }
+    {
+        true
     }
 
     // Whether each number of the record is one that the rules can make.

@@ -49,10 +49,10 @@ fn bay_of(address: u8) -> u8
 }
 
 // BSTR of a bay as it reads; 0 of a closed one.
-fn bstr(open: bool, bay: Bay) -> u8
-    ensures { λ r. ⌜ r ≡ cond «open» (bstrOf bay) 0 ⌝ }
+fn bstr(open: bool, bay: Bay, hides: bool, secured: bool) -> u8
+    ensures { λ r. ⌜ r ≡ cond «open» (bstrOf hides secured bay) 0 ⌝ }
 {
-    if open { bay.bstr() } else { 0 }
+    if open { bay.bstr(hides, secured) } else { 0 }
 }
 
 // BCER, likewise.
@@ -70,11 +70,11 @@ fn bstr_written(meant: bool, bay: Bay, value: u8) -> Bay
 }
 
 // BCER, likewise.
-fn bcer_written(meant: bool, bay: Bay, value: u8, setting: Setting) -> Bay
-    ensures { λ r. ⌜ r ≡ cond meant (controlledBay (controlOf value) setting bay) bay ⌝ }
+fn bcer_written(meant: bool, bay: Bay, value: u8, hides: bool, setting: Setting) -> Bay
+    ensures { λ r. ⌜ r ≡ cond meant (controlledBay hides (controlOf value) setting bay) bay ⌝ }
 {
     if meant {
-        bay.controlled(Control::of(value), setting)
+        bay.controlled(hides, Control::of(value), setting)
     } else {
         bay
     }
@@ -95,7 +95,8 @@ impl Machine {
         ensures { λ r. ⌜ r ≡ settingOf self ⌝ }
     {
         Setting {
-            lock_mode: lock_mode(self.straps),
+            pulsed: lock_mode(self.straps),
+            pulse_high: false,
             pulse_ticks: pulse_ticks(self.shared.lock_time),
             wait_ticks: self.shared.wait_time,
         }
@@ -112,7 +113,12 @@ impl Machine {
             Machine::VENDOR_HIGH => 0x10,
             Machine::REVISION => 0x01,
             Machine::DBCCR => self.shared.dbccr(),
-            Machine::BSTR_0 | Machine::BSTR_1 => bstr(open, bay_in(bays, i)),
+            Machine::BSTR_0 | Machine::BSTR_1 => bstr(
+                open,
+                bay_in(bays, i),
+                self.hides(),
+                self.secured(),
+            ),
             Machine::BCER_0 | Machine::BCER_1 => bcer(open, bay_in(bays, i)),
             Machine::LETR => self.shared.lock_time % 4,
             Machine::WAIT => self.shared.wait_time,
@@ -221,6 +227,7 @@ impl Machine {
         }
         let shared = self.shared;
         let bays = self.bays;
+        let hides = self.hides();
         let setting = self.setting();
         Machine {
             started: self.started,
@@ -228,8 +235,8 @@ impl Machine {
             shared,
             phase: self.phase,
             bays: [
-                bcer_written(i == 0, bays[0], value, setting),
-                bcer_written(!(i == 0), bays[1], value, setting),
+                bcer_written(i == 0, bays[0], value, hides, setting),
+                bcer_written(!(i == 0), bays[1], value, hides, setting),
             ],
         }
     }

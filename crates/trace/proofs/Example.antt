@@ -2,11 +2,11 @@
 use mathlib.Core.Path.{_≡_, refl}
 use Rattle.bits.specs.Straps.{lockDef, lockMode}
 use Rattle.event.specs.Words.{unpacked}
-use Rattle.bay.specs.Record.{present, emptyBay, resetBay, bayFit}
+use Rattle.bay.specs.Record.{contact, present, emptyBay, resetBay, bayFit}
 use Rattle.bay.specs.Registers.{bstrOf, controlOf, asks, requestWritten, finds, stateWritten, pulseWritten, controlledBay}
 use Rattle.bay.specs.Outputs.{lockPin, green, yellow, bayOutputs, interrupts}
 use Rattle.bus.specs.Progress.{ownWrite, ownRead, started, heard}
-use Rattle.machine.specs.Record.{bayIn, placed, openBy, freshMachine, fits}
+use Rattle.machine.specs.Record.{bayIn, placed, openBy, hides, secured, freshMachine, fits}
 use Rattle.machine.specs.Outputs.{nibble, wants, outputs}
 use Rattle.machine.specs.Registers.{bstrAt, registers, register, reading, settingOf, bcerWrite, writes, written}
 use Rattle.machine.specs.Acts.{resetTo, does}
@@ -23,5 +23,5 @@ pub record AsPrinted : Type 0 where
   pub lone-byte : textOf loneInput ≡ loneText
 
 pub as-printed : AsPrinted
-unfolding exampleInput exampleText loneInput loneText textOf header odd wordsIn loneIn linesOf oddFor lineOf digitFor unpacked lockDef lockMode present emptyBay resetBay bayFit bstrOf controlOf asks requestWritten finds stateWritten pulseWritten controlledBay lockPin green yellow bayOutputs interrupts ownWrite ownRead started heard bayIn placed openBy freshMachine fits nibble wants outputs bstrAt registers register reading settingOf bcerWrite writes written resetTo does freshController stopDeed byteAt takeReply turnOf next takes stepOf
+unfolding exampleInput exampleText loneInput loneText textOf header odd wordsIn loneIn linesOf oddFor lineOf digitFor unpacked lockDef lockMode contact present emptyBay resetBay bayFit bstrOf controlOf asks requestWritten finds stateWritten pulseWritten controlledBay lockPin green yellow bayOutputs interrupts ownWrite ownRead started heard bayIn placed openBy hides secured freshMachine fits nibble wants outputs bstrAt registers register reading settingOf bcerWrite writes written resetTo does freshController stopDeed byteAt takeReply turnOf next takes stepOf
 as-printed = record { twelve-words = refl; lone-byte = refl }

@@ -6,9 +6,9 @@ use Rattle.bay.proofs.Bay.left.Tie as tie
 
 returns : tie.Need-returns
 returns c =
-    let start = c .before .before .before .before .before .before .before .before .before .before in
+    let start = c .before .before .before .before .before .before .before .before in
     let a = start .args in
-    rw (left 0 (a .self) (a .inputs .n1394) (a .inputs .nusb) (a .inputs .nremreq) (start .pre .1), ← start .pre .0, c .released .ensures)
+    rw (left (a .hides) 0 (a .self) (a .wait) (a .inputs .n1394) (a .inputs .nusb) (a .inputs .nremreq) (start .pre .1 .1), ← start .pre .0, ← start .pre .1 .0, c .released .ensures)
 
 pub left-spec : {M : Type 1} → statement M
 left-spec = tie.close (tie.spec (λ c κs. search needs) returns)

@@ -6,12 +6,13 @@ use Rattle.bay.proofs.Bay.outputs.Tie as tie
 
 returns : tie.Need-returns
 unfolding bayOutputs lockPin green yellow
-returns c = rw (c .before .before .before .put .ensures .0, c .before .before .put2 .ensures .0, c .before .put3 .ensures .0, c .put4 .ensures .0)
+returns c = rw (c .before .before .before .put .ensures .0, c .before .before .put2 .ensures .0, c .before .put3 .ensures .0, c .put4 .ensures .0, c .before .before .before .before .awaited .ensures)
 
 pub outputs-spec : {M : Type 1} → statement M
 outputs-spec =
     tie.close
     (tie.spec
+    (λ c κs. search needs)
     (λ c κs. search needs)
     (λ c κs. search needs)
     (λ c. search needs)

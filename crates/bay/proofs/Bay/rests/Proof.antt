@@ -14,7 +14,7 @@ returns c =
     let b = c .before .before .before .before .args .self in
     let la : length (b .accepted) ≡ 3 = search needs in
     let lc : length (b .counts) ≡ 3 = search needs in
-    (refl, λ e s. at-rest s b la lc e)
+    (refl, λ e hides s. at-rest hides s b la lc e)
 
 pub rests-spec : {M : Type 1} → statement M
 rests-spec =

@@ -27,7 +27,9 @@ returns-4 c = rw (c .before .match .keys4) (c .dbccr .ensures)
 
 returns-5 : tie.Need-returns-5
 unfolding register registers bstrAt
-returns-5 c = rw (c .bstr .ensures, c .before .bay-in .ensures, c .before .before .before .is-open .ensures, c .before .before .before .before .bay-of .ensures) (⊎-elim (λ e. rw e) (λ e. rw e) (c .before .before .match .keys5))
+returns-5 c =
+    let found = c .before .before .before in
+    rw (c .bstr .ensures, c .before .secured .ensures, c .before .before .hides .ensures, found .bay-in .ensures, found .before .before .is-open .ensures, found .before .before .before .bay-of .ensures) (⊎-elim (λ e. rw e) (λ e. rw e) (found .before .match .keys5))
 
 returns-6 : tie.Need-returns-6
 unfolding register registers bcerAt
@@ -51,6 +53,8 @@ pub register-spec : {M : Type 1} → statement M
 register-spec =
     tie.close
     (tie.spec
+    (λ c κs. search needs)
+    (λ c κs. search needs)
     (λ c κs. search needs)
     (λ c κs. search needs)
     (λ c κs. search needs)

@@ -14,9 +14,9 @@ unfolding restful bayIn
 returns c =
     let bays = c .before .before .before .before .args .t1 in (
       rw (c .before .before .rests .ensures .0, c .rests2 .ensures .0),
-      λ e s i.
+      λ e hides s i.
           let both = and-eq-true-iff (c .before .before .rests .result) (c .rests2 .result) .0 e in
-          each (λ b. tickedBay s b ≡ b) bays (c .before .before .rests .ensures .1 (both .0) s) (c .rests2 .ensures .1 (both .1) s) i,
+          each (λ b. tickedBay hides s b ≡ b) bays (c .before .before .rests .ensures .1 (both .0) hides s) (c .rests2 .ensures .1 (both .1) hides s) i,
     )
 
 pub rest-spec : {M : Type 1} → statement M
