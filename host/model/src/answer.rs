@@ -15,6 +15,8 @@ pub enum Refusal {
     TooManyWords = 5,
     /// Packing: straps that do not fit into four bits.
     WideStraps = 6,
+    /// Naming: a number that no kind has.
+    NoSuchKind = 14,
 }
 
 /// What the host sees of the bus after one event.

@@ -26,8 +26,22 @@ pub(crate) const DEBOUNCED: [Input; 3] = [
     Input { bit: NREMREQ, ticks: BUTTON_TICKS },
 ];
 
-/// Lamps flash with this many lit phases out of 200.
-const LIT_PHASES: u8 = 100;
+/// What the kind in force makes of a bay. The bay knows no more of the kinds than this, so that one bay serves both.
+#[derive(Clone, Copy)]
+pub(crate) struct Rules {
+    /// The ticks that a device has to wait, 0 for none.
+    pub(crate) wait: u16,
+    /// Whether there is no device before its wait is over. Else there is, and only the bay is Inserted later.
+    pub(crate) wait_hides: bool,
+    /// The ticks of an unlocking pulse; 0 where there is none and the lock pin follows LOCK_CTL.
+    pub(crate) pulse: u16,
+    /// The lock pin's level within a pulse, and the other one outside.
+    pub(crate) pulse_high: bool,
+    /// Whether a lamp that flashes is lit.
+    pub(crate) lit: bool,
+    /// Whether BSTR shows nSL.
+    pub(crate) shows_security_lock: bool,
+}
 
 #[derive(Clone, Copy, PartialEq, Eq, Debug)]
 pub(crate) enum State {
@@ -82,9 +96,9 @@ pub struct Bay {
     pub(crate) devstschg: bool,
     pub(crate) request: u8,
     pub(crate) control: Control,
-    pub(crate) pulse: u8,
-    /// The ticks until the bay is Inserted; 0 where no count runs.
-    pub(crate) wait: u8,
+    pub(crate) pulse: u16,
+    /// The ticks until the bay is Inserted or its device is seen; 0 where no count runs.
+    pub(crate) wait: u16,
 }
 
 impl Bay {
@@ -102,7 +116,7 @@ impl Bay {
             pulse: 0,
             wait: 0,
         };
-        bay.devstschg = bay.present();
+        bay.devstschg = bay.contact();
         bay
     }
 
@@ -111,8 +125,22 @@ impl Bay {
         Bay::reset(0x0F, false)
     }
 
-    fn present(&self) -> bool {
+    /// Whether something is accepted as being in the bay, be it seen or not.
+    fn contact(&self) -> bool {
         self.accepted & PRESENCE != PRESENCE
+    }
+
+    /// The bits of the presence inputs that show a device.
+    fn shown(&self, rules: Rules) -> u8 {
+        if rules.wait_hides && self.wait > 0 {
+            0
+        } else {
+            !self.accepted & PRESENCE
+        }
+    }
+
+    fn present(&self, rules: Rules) -> bool {
+        self.shown(rules) != 0
     }
 
     /// New levels; an input that is back at its accepted level starts counting afresh.
@@ -125,27 +153,30 @@ impl Bay {
         }
     }
 
-    /// `wait_time` is what 42h holds.
-    pub fn tick(&mut self, wait_time: u8) {
+    pub fn tick(&mut self, rules: Rules) {
         if (self.levels ^ self.accepted) & ANY_DEBOUNCED != 0 || self.wait > 0 {
-            self.settle(wait_time);
+            self.settle(rules);
         }
         self.pulse = self.pulse.saturating_sub(1);
     }
 
     /// One tick for inputs that differ from their accepted level and for a count that runs, and the move that may
     /// follow.
-    fn settle(&mut self, wait_time: u8) {
+    fn settle(&mut self, rules: Rules) {
         let before = self.accepted;
-        let was_present = self.present();
+        let was_shown = self.shown(rules);
+        let was_present = self.present(rules);
+        let had_contact = self.contact();
         self.debounce();
-        let changed = self.accepted ^ before;
-        if changed & PRESENCE != 0 {
-            self.tell_change(was_present);
+        if rules.wait_hides {
+            self.wait_unseen(had_contact, rules.wait);
         }
-        let moved = self.seat(was_present, wait_time);
-        let button_down = changed & NREMREQ != 0 && self.accepted & NREMREQ == 0;
-        if button_down && self.present() {
+        if self.shown(rules) != was_shown {
+            self.tell_change(was_present && !self.present(rules));
+        }
+        let moved = self.seat(was_present, rules);
+        let button_down = (self.accepted ^ before) & NREMREQ != 0 && self.accepted & NREMREQ == 0;
+        if button_down && self.present(rules) {
             self.pressed(moved);
         }
     }
@@ -164,26 +195,34 @@ impl Bay {
         }
     }
 
+    /// The wait of a device that nobody sees yet: new contact begins it, and lost contact ends it.
+    fn wait_unseen(&mut self, had_contact: bool, ticks: u16) {
+        if self.wait > 0 {
+            self.wait = if self.contact() { self.wait - 1 } else { 0 };
+        } else if self.contact() && !had_contact {
+            self.wait = ticks;
+        }
+    }
+
     /// Either presence bit has changed.
-    fn tell_change(&mut self, was_present: bool) {
-        let leaving = was_present && !self.present();
+    fn tell_change(&mut self, leaving: bool) {
         let silent = leaving && self.state == State::RemovalAllowed && !self.control.remevtwak_enable;
         if !silent {
             self.devstschg = true;
         }
     }
 
-    /// A device leaves or comes, or else a count goes on. Says whether that gave the bay a state.
-    fn seat(&mut self, was_present: bool, wait_time: u8) -> bool {
-        if was_present && !self.present() {
+    /// A device leaves or comes, or else the count of one that is seen goes on. Says whether that gave the bay a state.
+    fn seat(&mut self, was_present: bool, rules: Rules) -> bool {
+        if was_present && !self.present(rules) {
             self.leave();
             return true;
         }
-        let arriving = !was_present && self.present();
+        let arriving = !was_present && self.present(rules);
         if arriving && self.control.devstschg_enable {
-            return self.insert(wait_time);
+            return self.insert(rules);
         }
-        self.wait_on()
+        !rules.wait_hides && self.wait_on()
     }
 
     fn leave(&mut self) {
@@ -193,11 +232,11 @@ impl Bay {
         self.wait = 0;
     }
 
-    /// A device that the host is to hear of is Inserted at once, or after the wait that begins here. Says whether that
-    /// gave the bay a state.
-    fn insert(&mut self, wait_time: u8) -> bool {
-        if wait_time > 0 {
-            self.wait = wait_time;
+    /// A device that the host is to hear of is Inserted at once, or after the wait that begins here; one that was unseen
+    /// has waited already. Says whether that gave the bay a state.
+    fn insert(&mut self, rules: Rules) -> bool {
+        if rules.wait > 0 && !rules.wait_hides {
+            self.wait = rules.wait;
             return false;
         }
         self.state = State::Inserted;
@@ -228,10 +267,10 @@ impl Bay {
     }
 
     /// BSTR.
-    pub fn status(&self) -> u8 {
-        let locked = self.levels & NSL == 0;
-        let has_1394 = self.accepted & N1394 == 0;
-        let has_usb = self.accepted & NUSB == 0;
+    pub fn status(&self, rules: Rules) -> u8 {
+        let locked = rules.shows_security_lock && self.levels & NSL == 0;
+        let has_1394 = self.shown(rules) & N1394 != 0;
+        let has_usb = self.shown(rules) & NUSB != 0;
         u8::from(locked) << 7
             | (self.state as u8) << 4
             | u8::from(self.remreq_status) << 3
@@ -260,9 +299,8 @@ impl Bay {
             | u8::from(self.control.power)
     }
 
-    /// A write to BCER. `pulse` is the length of the unlocking pulse, and 0 in the mode that has none; `wait_time` is
-    /// what 42h holds.
-    pub fn write_control(&mut self, value: u8, pulse: u8, wait_time: u8) {
+    /// A write to BCER. No write ends the wait of a device that nobody sees.
+    pub fn write_control(&mut self, value: u8, rules: Rules) {
         let old = self.control;
         let lock = value & 0x80 != 0;
         self.control = Control {
@@ -270,47 +308,59 @@ impl Bay {
             remreq_enable: value & 0x08 != 0,
             devstschg_enable: value & 0x04 != 0,
             remevtwak_enable: value & 0x02 != 0,
-            power: value & 0x01 != 0 && lock && self.present(),
+            power: value & 0x01 != 0 && lock && self.present(rules),
         };
         let requested = State::requested(value >> 4 & 7);
         if let Some(state) = requested {
             self.request = state as u8;
         }
-        self.written_move(requested, old, wait_time);
-        if !self.control.devstschg_enable {
+        self.written_move(requested, old, rules);
+        if !self.control.devstschg_enable && !rules.wait_hides {
             self.wait = 0;
         }
-        if old.lock && !lock && pulse > 0 {
-            self.pulse = pulse;
+        if old.lock && !lock && rules.pulse > 0 {
+            self.pulse = rules.pulse;
         }
     }
 
     /// The one move of a BCER write: the first that applies. DEVSTSCHG_EN over a device may only begin the wait for its
     /// own.
-    fn written_move(&mut self, requested: Option<State>, old: Control, wait_time: u8) {
+    fn written_move(&mut self, requested: Option<State>, old: Control, rules: Rules) {
         let devstschg_rises = !old.devstschg_enable && self.control.devstschg_enable;
         let remreq_rises = !old.remreq_enable && self.control.remreq_enable;
-        if let (Some(state), true) = (requested, self.present()) {
+        if let (Some(state), true) = (requested, self.present(rules)) {
             self.state = state;
             self.wait = 0;
-        } else if devstschg_rises && self.state == State::Empty && self.present() {
-            self.insert(wait_time);
+        } else if devstschg_rises && self.state == State::Empty && self.present(rules) {
+            self.insert(rules);
         } else if remreq_rises && self.remreq_status && self.state.takes_removal_request() {
             self.state = State::RemovalRequested;
         }
     }
 
+    /// The lock goes as the solenoid is set up anew: power goes with it, and there is no pulse.
+    pub fn unlock(&mut self) {
+        self.control.lock = false;
+        self.control.power = false;
+        self.pulse = 0;
+    }
+
     /// Power, lock pin, green and yellow, bits 3 to 0.
-    pub fn outputs(&self, lock_pulses: bool, phase: u8) -> u16 {
-        let lit = phase < LIT_PHASES;
-        let lock_pin = if lock_pulses { self.pulse == 0 } else { self.control.lock };
+    pub fn outputs(&self, rules: Rules) -> u16 {
+        let lock_pin = if rules.pulse > 0 { (self.pulse > 0) == rules.pulse_high } else { self.control.lock };
         let (green, yellow) = match self.state {
+            State::Empty => (rules.lit && self.recognized(rules), false),
+            State::Inserted => (rules.lit, false),
             State::Enabled => (true, false),
-            State::Inserted => (lit, false),
-            State::RemovalRequested => (false, lit),
-            State::Empty | State::RemovalAllowed => (false, false),
+            State::RemovalRequested => (false, rules.lit),
+            State::RemovalAllowed => (false, false),
         };
         u16::from(self.control.power) << 3 | u16::from(lock_pin) << 2 | u16::from(green) << 1 | u16::from(yellow)
+    }
+
+    /// Whether the user is to see that a device was found, though the host doesn't see it yet.
+    fn recognized(&self, rules: Rules) -> bool {
+        rules.wait_hides && self.wait > 0 && self.control.devstschg_enable
     }
 
     pub fn interrupts(&self) -> bool {

@@ -1,36 +1,37 @@
-//! The controller: straps, register map, one event at a time.
+//! The controller: its state, one event at a time, and what both kinds have in common.
 
-use crate::bay::Bay;
+use crate::bay::{Bay, Rules};
 use crate::bus::Command;
-use crate::{unpack, Answer, Event, Refusal, Reply};
+use crate::second::Registers;
+use crate::{first, second, unpack, Answer, Event, Kind, Refusal, Reply};
 
 const PHASES: u8 = 200;
 
-/// LETR's four pulse lengths, in ticks.
-const PULSE_TICKS: [u8; 4] = [12, 50, 100, 200];
-
-/// The address byte for writing at SMB_A 0.
-const BASE_ADDRESS: u8 = 0x90;
-
-/// The straps: two address bits, then these.
-const LOCK_DEF: u8 = 2;
-const LOCK_MODE: u8 = 1;
-
-const DBCCR: u8 = 0x0C;
-const BSTR: [u8; 2] = [0x10, 0x18];
-const BCER: [u8; 2] = [0x14, 0x1C];
-const LETR: u8 = 0x40;
-const WAIT: u8 = 0x42;
-
+/// Where both kinds have DBCCR, and its bit above the bay count.
+pub(crate) const DBCCR: u8 = 0x0C;
 const SECLOCK: u8 = 0x10;
-const BAY_COUNT_BITS: u8 = 0x03;
-const LETR_BITS: u8 = 0x03;
+
+/// Where a kind has the registers of the two bays.
+pub(crate) struct BayAddresses {
+    pub(crate) status: [u8; 2],
+    pub(crate) control: [u8; 2],
+}
+
+/// What differs by kind in a RESET: LOCK_CTL of both bays, LETR and the bay count.
+pub(crate) struct Start {
+    pub(crate) lock: bool,
+    pub(crate) lock_time: u8,
+    pub(crate) bay_count: u8,
+}
 
 /// The whole controller. A fresh one waits for its first RESET. Its fields are those of the paper and no others, so
 /// that it can be in every state that the paper calls fit, also in one that no list of words leads to.
 #[derive(Clone, PartialEq, Eq, Debug)]
 pub struct Controller {
     pub(crate) started: bool,
+    /// The kind in force, and the one that the next RESET puts in force.
+    pub(crate) kind: Kind,
+    pub(crate) named: Kind,
     pub(crate) straps: u8,
     pub(crate) command: Command,
     pub(crate) security_lock: bool,
@@ -38,6 +39,7 @@ pub struct Controller {
     pub(crate) capabilities_written: bool,
     pub(crate) lock_time: u8,
     pub(crate) wait_time: u8,
+    pub(crate) second: Registers,
     pub(crate) phase: u8,
     pub(crate) bays: [Bay; 2],
 }
@@ -52,6 +54,8 @@ impl Controller {
     pub fn new() -> Controller {
         Controller {
             started: false,
+            kind: Kind::First,
+            named: Kind::First,
             straps: 0,
             command: Command::Idle,
             security_lock: false,
@@ -59,6 +63,7 @@ impl Controller {
             capabilities_written: false,
             lock_time: 0,
             wait_time: 0,
+            second: Registers::default(),
             phase: 0,
             bays: [Bay::empty(), Bay::empty()],
         }
@@ -78,79 +83,50 @@ impl Controller {
 
     fn take_event(&mut self, event: Event) -> Reply {
         match event {
-            Event::Start => self.command = self.command.start(),
+            Event::Start => self.start(),
             Event::Stop => self.stop(),
             Event::Byte(value) => return self.byte(value),
-            Event::Take { .. } => return self.take(),
+            Event::Take { ack } => return self.take(ack),
             Event::Pins(levels) => self.pins(levels),
             Event::Tick => self.tick(),
-            Event::Reset { straps, levels, short_pulse } => *self = Controller::reset(straps, levels, short_pulse),
+            Event::Reset { straps, levels, short_pulse } => *self = self.reset(straps, levels, short_pulse),
             Event::Timeout => self.command = Command::Idle,
         }
         Reply::None
     }
 
-    /// LETR starts at 500 ms, and at 120 ms in a dock that was built on the short pulse.
-    fn reset(straps: u8, levels: u8, short_pulse: bool) -> Controller {
-        let lock = straps & (LOCK_DEF | LOCK_MODE) == LOCK_DEF;
+    /// The named kind comes into force, and the name stays for the RESETs after this one.
+    fn reset(&self, straps: u8, levels: u8, short_pulse: bool) -> Controller {
+        let start = match self.named {
+            Kind::First => first::start(straps, short_pulse),
+            Kind::Second => second::start(),
+        };
         Controller {
             started: true,
+            kind: self.named,
+            named: self.named,
             straps,
-            lock_time: if short_pulse { 0 } else { 1 },
-            bays: [Bay::reset(levels >> 4, lock), Bay::reset(levels & 0x0F, lock)],
+            bay_count: start.bay_count,
+            lock_time: start.lock_time,
+            second: self.second.reset(),
+            bays: [Bay::reset(levels >> 4, start.lock), Bay::reset(levels & 0x0F, start.lock)],
             ..Controller::new()
         }
     }
 
-    /// The own address byte for writing; the one for reading is one more.
-    pub fn write_address(&self) -> u8 {
-        BASE_ADDRESS + 2 * (self.straps >> 2)
-    }
-
-    fn lock_pulses(&self) -> bool {
-        self.straps & LOCK_MODE != 0
-    }
-
-    fn stop(&mut self) {
-        if let Command::Data { register, value } = self.command {
-            self.write(register, value);
+    /// What the kind in force makes of a bay.
+    fn rules(&self) -> Rules {
+        match self.kind {
+            Kind::First => first::rules(self),
+            Kind::Second => second::rules(self),
         }
-        self.command = Command::Idle;
-    }
-
-    /// A byte goes on with the command or ends it, and is acknowledged exactly in the first case.
-    fn byte(&mut self, value: u8) -> Reply {
-        self.command = match self.command {
-            Command::Opened if value == self.write_address() => Command::Addressed,
-            Command::Addressed => Command::Register(value),
-            Command::Register(register) => Command::Data { register, value },
-            // The value is fixed here; what the pins do before the TAKE no longer matters.
-            Command::Restarted(register) if value == self.write_address() + 1 => {
-                Command::Driving(self.reading(register))
-            }
-            _ => Command::Idle,
-        };
-        if self.command == Command::Idle {
-            Reply::NoAck
-        } else {
-            Reply::Ack
-        }
-    }
-
-    fn take(&mut self) -> Reply {
-        let reply = match self.command {
-            Command::Driving(value) => Reply::Driven(value),
-            _ => Reply::NotDriven,
-        };
-        self.command = Command::Idle;
-        reply
     }
 
     fn bay1_closed(&self) -> bool {
         self.bay_count == 1
     }
 
-    fn open_bays(&self) -> &[Bay] {
+    pub(crate) fn open_bays(&self) -> &[Bay] {
         let open = if self.bay1_closed() { 1 } else { 2 };
         &self.bays[..open]
     }
@@ -168,8 +144,8 @@ impl Controller {
     }
 
     fn tick(&mut self) {
-        let wait_time = self.wait_time;
-        self.open_bays_mut().iter_mut().for_each(|bay| bay.tick(wait_time));
+        let rules = self.rules();
+        self.open_bays_mut().iter_mut().for_each(|bay| bay.tick(rules));
         self.phase = (self.phase + 1) % PHASES;
     }
 
@@ -183,66 +159,58 @@ impl Controller {
         if !self.started {
             return 0;
         }
-        match address {
-            0x00 => 0x55,
-            0x01 => 0x10,
-            0x04 => 0x01,
-            DBCCR => self.capabilities(),
-            LETR => self.lock_time,
-            WAIT => self.wait_time,
-            _ => self.bay_reading(address),
+        match self.kind {
+            Kind::First => first::reading(self, address),
+            Kind::Second => second::reading(self, address),
         }
     }
 
     /// DBCCR.
-    fn capabilities(&self) -> u8 {
+    pub(crate) fn capabilities(&self) -> u8 {
         let security_lock = if self.security_lock { SECLOCK } else { 0 };
         security_lock | self.bay_count
     }
 
-    fn bay_reading(&self, address: u8) -> u8 {
+    pub(crate) fn bay_reading(&self, at: &BayAddresses, address: u8) -> u8 {
         for (index, bay) in self.open_bays().iter().enumerate() {
-            if address == BSTR[index] {
-                return bay.status();
+            if address == at.status[index] {
+                return bay.status(self.rules());
             }
-            if address == BCER[index] {
+            if address == at.control[index] {
                 return bay.control();
             }
         }
         0
     }
 
-    fn write(&mut self, address: u8, value: u8) {
-        match address {
-            DBCCR => self.write_capabilities(value),
-            LETR => self.lock_time = value & LETR_BITS,
-            WAIT => self.wait_time = value,
-            _ => self.write_bay(address, value),
+    pub(crate) fn write(&mut self, address: u8, value: u8) {
+        match self.kind {
+            Kind::First => first::write(self, address, value),
+            Kind::Second => second::write(self, address, value),
         }
     }
 
-    /// Only the first write after a RESET counts, whatever it writes.
-    fn write_capabilities(&mut self, value: u8) {
+    /// Only the first write after a RESET counts, whatever it writes; how it tells the bay count is the kind's.
+    pub(crate) fn write_capabilities(&mut self, value: u8, bay_count: u8) {
         if self.capabilities_written {
             return;
         }
         self.capabilities_written = true;
         self.security_lock = value & SECLOCK != 0;
-        self.bay_count = value & BAY_COUNT_BITS;
+        self.bay_count = bay_count;
         if self.bay1_closed() {
             self.bays[1] = Bay::empty();
         }
     }
 
-    fn write_bay(&mut self, address: u8, value: u8) {
-        let pulse = if self.lock_pulses() { PULSE_TICKS[usize::from(self.lock_time)] } else { 0 };
-        let wait_time = self.wait_time;
+    pub(crate) fn write_bay(&mut self, at: &BayAddresses, address: u8, value: u8) {
+        let rules = self.rules();
         for (index, bay) in self.open_bays_mut().iter_mut().enumerate() {
-            if address == BSTR[index] {
+            if address == at.status[index] {
                 bay.write_status(value);
             }
-            if address == BCER[index] {
-                bay.write_control(value, pulse, wait_time);
+            if address == at.control[index] {
+                bay.write_control(value, rules);
             }
         }
     }
@@ -252,9 +220,10 @@ impl Controller {
         if !self.started {
             return 0;
         }
+        let rules = self.rules();
         let mut outputs = 0;
         for (bay, place) in self.open_bays().iter().zip([5, 1]) {
-            outputs |= bay.outputs(self.lock_pulses(), self.phase) << place;
+            outputs |= bay.outputs(rules) << place;
             outputs |= u16::from(bay.interrupts());
         }
         outputs

@@ -1,4 +1,5 @@
-//! A controller as 54 bytes, and back. Every fit state has one image, and no other bytes give it.
+//! A controller as 54 bytes, and back. Every fit state has one image, and no other bytes give it, as long as the
+//! controller has known the first kind alone: the layout has no place for the second.
 //!
 //! In order: the version of the layout; the flags, each 0 or 1, of the controller and of either bay; the numbers, of
 //! the controller and of either bay; the command in progress with the two bytes that it may hold, 0 where it has none.
@@ -6,7 +7,8 @@
 
 use crate::bay::{Bay, Control, State, DEBOUNCED, NSL};
 use crate::bus::Command;
-use crate::Controller;
+use crate::second::Registers;
+use crate::{Controller, Kind};
 
 /// The length of an image.
 pub const STATE_BYTES: usize = 54;
@@ -22,8 +24,12 @@ const MOST_PHASE: u8 = 199;
 const MOST_REQUEST: u8 = 4;
 const MOST_PULSE: u8 = 200;
 
+const NO_PLACE: &str = "an image has no place for the second kind";
+
 impl Controller {
+    /// The image of a controller that holds nothing of the second kind; of any other there is none, and this panics.
     pub fn image(&self) -> [u8; STATE_BYTES] {
+        assert!(self.is_first_alone(), "{}", NO_PLACE);
         let mut image = Writer { bytes: [0; STATE_BYTES], next: 0 };
         image.put(VERSION);
         image.flags(&[self.started, self.capabilities_written, self.security_lock]);
@@ -32,6 +38,12 @@ impl Controller {
         self.bays.iter().for_each(|bay| image.bay_numbers(bay));
         image.numbers(&progress(self.command));
         image.bytes
+    }
+
+    fn is_first_alone(&self) -> bool {
+        [self.kind, self.named] == [Kind::First; 2]
+            && self.command.is_of(Kind::First)
+            && self.second == Registers::default()
     }
 
     /// The controller that has this image; none where the bytes are no image, or that of a state that is not fit.
@@ -62,6 +74,7 @@ impl Controller {
             wait_time,
             phase,
             bays,
+            ..Controller::new()
         })
     }
 }
@@ -85,6 +98,7 @@ fn progress(command: Command) -> [u8; 3] {
         Command::Data { register, value } => [4, register, value],
         Command::Restarted(register) => [5, register, 0],
         Command::Driving(value) => [6, value, 0],
+        Command::Writing(_) | Command::Reading { .. } => panic!("{}", NO_PLACE),
     }
 }
 
@@ -131,7 +145,8 @@ impl Writer {
 
     fn bay_numbers(&mut self, bay: &Bay) {
         self.numbers(&bay.counts);
-        self.numbers(&[bay.state as u8, bay.request, bay.pulse, bay.wait]);
+        let byte = |ticks: u16| u8::try_from(ticks).expect(NO_PLACE);
+        self.numbers(&[bay.state as u8, bay.request, byte(bay.pulse), byte(bay.wait)]);
     }
 }
 
@@ -186,8 +201,8 @@ impl Reader<'_> {
         }
         bay.state = State::of_number(self.take())?;
         bay.request = self.number(MOST_REQUEST)?;
-        bay.pulse = self.number(MOST_PULSE)?;
-        bay.wait = self.take();
+        bay.pulse = self.number(MOST_PULSE)?.into();
+        bay.wait = self.take().into();
         Some(())
     }
 }

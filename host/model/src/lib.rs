@@ -1,4 +1,4 @@
-//! A plain controller of the two-bay dock, written from documents 01 and 02 alone.
+//! A plain controller of the two-bay dock, written from documents 01, 02 and 03 alone.
 //!
 //! It shares nothing with the proved library but the paper: no code, no table, no definition. Where the two
 //! disagree, one of them has misread the paper, and the differential test beside this crate says on which words.
@@ -20,11 +20,15 @@ mod bay;
 mod bus;
 mod controller;
 mod event;
+mod first;
 mod image;
+mod kind;
 pub mod numbers;
+mod second;
 
 pub use answer::{Answer, Refusal, Reply, RECORD_BYTES};
 pub use batch::MOST_WORDS;
 pub use controller::Controller;
 pub use event::{pack, unpack, Event};
 pub use image::{is_image, STATE_BYTES};
+pub use kind::Kind;
