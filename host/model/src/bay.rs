@@ -70,7 +70,7 @@ impl State {
     }
 
     /// Whether the removal button means anything here.
-    fn takes_removal_request(self) -> bool {
+    pub(crate) fn takes_removal_request(self) -> bool {
         matches!(self, State::Inserted | State::Enabled)
     }
 }

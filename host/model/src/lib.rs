@@ -25,6 +25,8 @@ mod image;
 mod kind;
 pub mod numbers;
 mod second;
+#[cfg(test)]
+mod unreached;
 
 pub use answer::{Answer, Refusal, Reply, RECORD_BYTES};
 pub use batch::MOST_WORDS;

@@ -13,7 +13,16 @@ pub fn answer(result: Result<u16, Refusal>) -> u32 {
 
 /// From a fresh controller.
 pub fn replay(words: &[u16], records: &mut [u8]) -> u32 {
-    answer(Controller::new().batch(words, records).map(|count| count as u16))
+    batch(&mut Controller::new(), words, records)
+}
+
+pub fn batch(dock: &mut Controller, words: &[u16], records: &mut [u8]) -> u32 {
+    answer(dock.batch(words, records).map(|count| count as u16))
+}
+
+/// A name that is taken has value 0.
+pub fn name_kind(dock: &mut Controller, number: u8) -> u32 {
+    answer(dock.name_kind(number).map(|()| 0))
 }
 
 pub fn pack(kind: u8, first: u16, second: u8) -> u32 {

@@ -1,7 +1,10 @@
-//! The examples and sentences of documents 01 and 02 as data: event words, and what the papers say of them in numbers.
+//! The examples and sentences of documents 01, 02 and 03 as data: event words, and what the papers say of them in
+//! numbers.
 //!
 //! Nothing here is a controller. Whoever has one lends its three calls, and every example is asked of it: the model's
-//! tests do so with the model alone, the differential test with the library, the model and the C controller.
+//! tests do so with the model alone, the differential test with the library, the model and the C controller. What
+//! document 03 says of the second kind needs a call more, the one that names a kind, between the words; so these are
+//! stories, which are asked of a controller that lends its calls on a state.
 
 mod batch;
 mod bays;
@@ -10,8 +13,12 @@ mod bus;
 mod buttons;
 mod outputs;
 mod registers;
+mod second_kind;
+mod story;
 mod waits;
 pub mod words;
+
+pub use story::{StateCalls, Step, Story};
 
 /// A controller's calls, each from a fresh one, with answers as the C interface has them: the refusal number times
 /// 65,536 plus the value.
@@ -58,6 +65,11 @@ pub fn examples() -> Vec<Example> {
     .collect()
 }
 
+/// Those of the second kind, in document 03's order.
+pub fn stories() -> Vec<Story> {
+    second_kind::stories()
+}
+
 fn example(name: impl Into<String>, parts: &[&[u16]], expected: Vec<Expected>) -> Example {
     Example { name: name.into(), words: parts.concat(), expected }
 }
@@ -72,6 +84,16 @@ const OWN: u8 = 0x90;
 /// A whole write at address 90h.
 fn w(register: u8, value: u8) -> [u16; 5] {
     words::write(OWN, register, value)
+}
+
+/// A write of these bytes at address 90h, from this register on.
+fn w_all(register: u8, values: &[u8]) -> Vec<u16> {
+    words::write_all(OWN, register, values)
+}
+
+/// A read of so many bytes at address 90h, from this register on.
+fn read_all(register: u8, count: usize) -> Vec<u16> {
+    words::read_all(OWN, register, count)
 }
 
 fn ticks(count: usize) -> Vec<u16> {
@@ -106,7 +128,6 @@ impl Example {
 
     /// The question in words, the controller's answer, the paper's.
     fn ask(&self, expected: &Expected, controller: &Calls) -> (String, String, String) {
-        let hex = |answer: u32| format!("{:08X}h", answer);
         match expected {
             Expected::Records(last) => {
                 let mut bytes = vec![UNTOUCHED; 4 * self.words.len()];
@@ -133,6 +154,10 @@ impl Example {
             }
         }
     }
+}
+
+fn hex(answer: u32) -> String {
+    format!("{:08X}h", answer)
 }
 
 fn shown(bytes: &[u8]) -> String {

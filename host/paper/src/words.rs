@@ -36,3 +36,15 @@ pub const fn write(own: u8, register: u8, value: u8) -> [u16; 5] {
 pub const fn read(own: u8, register: u8) -> [u16; 6] {
     [START, byte(own), byte(register), START, byte(own | 1), take(false)]
 }
+
+/// A write of any number of data bytes, for a controller of the second kind.
+pub fn write_all(own: u8, register: u8, values: &[u8]) -> Vec<u16> {
+    let data = values.iter().map(|&value| byte(value));
+    [START, byte(own), byte(register)].into_iter().chain(data).chain([STOP]).collect()
+}
+
+/// A read of at least one byte, for a controller of the second kind: every TAKE but the last is ACKed.
+pub fn read_all(own: u8, register: u8, count: usize) -> Vec<u16> {
+    let takes = (1..=count).map(|taken| take(taken < count));
+    [START, byte(own), byte(register), START, byte(own | 1)].into_iter().chain(takes).collect()
+}
