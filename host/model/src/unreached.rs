@@ -1,10 +1,11 @@
-//! Tests of the second kind on states that are fit and that no list of words leads to.
+//! Tests of the second kind on what no list of words shows: fit states that none leads to, and fields that the kind in
+//! force passes by.
 
 use crate::bay::{Bay, Control, State, DEBOUNCED};
 use crate::bus::Command;
 use crate::second::{Once, Registers};
 use crate::{Controller, Kind, Reply};
-use paper::words::{byte, pins, take, write, START, STOP, TICK, TIMEOUT};
+use paper::words::{byte, pins, reset, reset_short, take, write, START, STOP, TICK, TIMEOUT};
 
 /// Counts of a bay whose nUSB is accepted in the next tick.
 const LAST_TICK_OF_NUSB: [u8; 3] = [0, 9, 0];
@@ -269,6 +270,49 @@ fn what_only_the_other_kind_uses_is_passed_by() {
             let [one, two] = [docks[0].step(word), docks[1].step(word)];
             assert_eq!(one, two);
             (0..=u8::MAX).for_each(|address| assert_eq!(docks[0].reading(address), docks[1].reading(address)));
+        }
+    }
+}
+
+/// From a state where every field holds something.
+#[test]
+fn a_reset_keeps_what_the_table_says_and_nothing_else() {
+    let once = |value| Once { value, written: true };
+    let mut full = bay(State::Enabled, true, 9);
+    full.pulse = 12;
+    let before = Controller {
+        straps: 15,
+        command: Command::Writing(0x14),
+        security_lock: true,
+        bay_count: 1,
+        capabilities_written: true,
+        lock_time: 3,
+        wait_time: 200,
+        phase: 77,
+        second: Registers { subsystem: [1, 2, 3, 4].map(once), features: once(5), form_factors: [6, 7].map(once) },
+        bays: [full.clone(), full],
+        ..started(Kind::Second)
+    };
+    let kept = Registers {
+        subsystem: [1, 2, 3, 4].map(|value| Once { value, written: false }),
+        features: Once::default(),
+        form_factors: [6, 7].map(once),
+    };
+    for (kind, named) in [(1, Kind::First), (2, Kind::Second)] {
+        for (word, letr) in [(reset(0x2, 0xBF), 1), (reset_short(0x2, 0xBF), 0)] {
+            let mut dock = before.clone();
+            dock.name_kind(kind).unwrap();
+            dock.step(word);
+            let first = named == Kind::First;
+            let expected = Controller {
+                straps: 2,
+                bay_count: if first { 0 } else { 2 },
+                lock_time: if first { letr } else { 0 },
+                second: kept,
+                bays: [Bay::reset(0x0B, first), Bay::reset(0x0F, first)],
+                ..started(named)
+            };
+            assert_eq!(dock, expected);
         }
     }
 }

@@ -4,8 +4,9 @@ use super::{second, AFTER_N};
 use crate::words::{byte, pins, read, take, START, STOP, TICK, TIMEOUT};
 use crate::{hold, read_all, record, w, w_all, Story, N, OWN, R};
 
-/// A write after its register byte, and a read after its own read byte.
+/// A write after its register byte, the data byte that may follow, and a read after its own read byte.
 const NUMBERED: [u16; 3] = [START, byte(OWN), byte(0x10)];
+const WRITTEN: u16 = byte(0x02);
 const READING: [u16; 5] = [START, byte(OWN), byte(0x00), START, byte(OWN + 1)];
 
 /// The replies of the last words, with no output on.
@@ -100,7 +101,7 @@ fn reads() -> Vec<Story> {
 fn endings() -> Vec<Story> {
     let opened = &NUMBERED[..1];
     let addressed = &NUMBERED[..2];
-    let written = [&NUMBERED[..], &[byte(0x02)]].concat();
+    let written = [&NUMBERED[..], &[WRITTEN]].concat();
     let again = &READING[..4];
     let taken = [&READING[..], &[take(true)]].concat();
     let by_start = [("an own write byte", addressed), ("a data byte", &written), ("the second START", again)];
@@ -133,16 +134,15 @@ fn endings() -> Vec<Story> {
     all
 }
 
-/// The event ends the transfer, is spent and opens nothing: neither an address nor a data byte nor a TAKE goes on. The
-/// next START opens one.
+/// The event ends the transfer, is spent and opens nothing: neither an address byte nor a data byte nor a TAKE goes on.
+/// What was written before stands, and the next START opens a transfer.
 fn ended(name: String, open: &[u16], event: u16, reply: u32) -> Story {
-    let story = || second(name.clone()).words(&[N]).words(open);
-    let kept = if open.len() == 4 && open[3] == byte(0x02) { 0x02 } else { 0x00 };
-    replies(story().words(&[event, byte(OWN), take(true)]), &[reply, 2, 4])
-        .reads(0x10, kept)
-        .words(&READING)
-        .words(&[take(false)])
-        .gives(0x60, 0)
+    let kept = if open.contains(&WRITTEN) { 0x02 } else { 0x00 };
+    let tails = [(byte(OWN), 2), (byte(OWN + 1), 2), (byte(0x80), 2), (take(true), 4), (take(false), 4)];
+    let ended = tails.into_iter().fold(second(name), |story, (tail, no)| {
+        replies(story.words(&[N]).words(open).words(&[event, tail]), &[reply, no]).reads(0x10, kept)
+    });
+    ended.words(&READING).words(&[take(false)]).gives(0x60, 0)
 }
 
 /// .. and so does a RESET.
@@ -150,7 +150,7 @@ fn resets() -> Vec<Story> {
     let reset_into = |name: &str, open: &[u16]| {
         second(format!("RESET {}", name)).words(&[N]).words(open).words(&[N]).reads_only(&AFTER_N)
     };
-    let written = [&NUMBERED[..], &[byte(0x02)]].concat();
+    let written = [&NUMBERED[..], &[WRITTEN]].concat();
     vec![
         replies(reset_into("after a START", &NUMBERED[..1]).words(&[byte(OWN)]), &[2]),
         replies(reset_into("after a register byte", &NUMBERED).words(&[byte(0x02)]), &[2]),
