@@ -19,6 +19,7 @@ use Rattle.bay.specs.Waits.{waitTicked, shownChanges}
 use Rattle.bay.specs.declared.Bay.{Bay}
 use Rattle.bay.specs.declared.Control.{Control}
 use Rattle.bay.specs.declared.Setting.{Setting}
+use Rattle.bay.proofs.Taut.{either-way}
 use Rattle.bay.proofs.Ticks.{waitNow, left, stayed as not-left, wait-after, present-after, heeded-after}
 use Rattle.bay.proofs.OneStep.{restart-same, restart-other}
 
@@ -63,11 +64,7 @@ gone-without-wait :
 unfolding present waitAfter
 gone-without-wait true s b p q =
     let both = and-eq-true-iff (not (runs (b .wait))) (contact b) .0 p in
-    wait-after true s b ∙ rw (both .1, ap (λ n. n - 1) (none-runs (b .wait) (not-true _ (both .0)))) (either (not (contact (tickedBay true s b))))
-  where
-    either : (t : Bool) → _≡_ {A = ℕ} (cond t 0 0) 0
-    either true = refl
-    either false = refl
+    wait-after true s b ∙ rw (both .1, ap (λ n. n - 1) (none-runs (b .wait) (not-true _ (both .0)))) (either-way 0 (not (contact (tickedBay true s b))))
 gone-without-wait false s b p q = wait-after false s b ∙ rw (p, q)
 
 -- A TICK in which the device leaves.
@@ -157,16 +154,12 @@ pub no-wait-begins :
 unfolding waitAfter
 no-wait-begins hides s b h w =
     wait-after hides s b
-    ∙ rw (none (contact b) (contact (tickedBay hides s b)) h, ap (λ n. n - 1) w) (either ((hides || contact b) && not (contact (tickedBay hides s b))))
+    ∙ rw (none (contact b) (contact (tickedBay hides s b)) h, ap (λ n. n - 1) w) (either-way 0 ((hides || contact b) && not (contact (tickedBay hides s b))))
   where
     none : (p q : Bool) → (q ≡ true → p ≡ true) → (not p && q) ≡ false
     none true q h = refl
     none false true h = sym (h refl)
     none false false h = refl
-
-    either : (t : Bool) → _≡_ {A = ℕ} (cond t 0 0) 0
-    either true = refl
-    either false = refl
 
 -- .. and over a contact that stays one that runs falls by one.
 pub wait-falls : (hides : Bool) (s : Setting) (b : Bay) → contact b ≡ true → contact (tickedBay hides s b) ≡ true → tickedBay hides s b .wait ≡ b .wait - 1

@@ -1,10 +1,9 @@
 -- A bay's registers and outputs by name (document 01, "Registers" and "Bay moves"): which bit is which as a driver reads and writes
 -- it, what each lamp shows in each state, what a pulse and the interrupt take. By computing over the bits. Assumes nothing.
 use Prim.Native.Nat.{ℕ, zero, suc, _+_, _*_, _/_, _%_, _-_, _<_}
-use native.Mathlib.Omega.{arith}
 use mathlib.Core.Path.{_≡_, refl, sym, _∙_}
 use mathlib.Core.Logic.{_↔_, _⊎_, inl, inr}
-use mathlib.Core.Bool.{Bool, true, false, not, cond, _&&_, _||_, Bool·beq, and-true, and-false, or-true, or-false, and-eq-true-iff}
+use mathlib.Core.Bool.{Bool, true, false, not, cond, _&&_, _||_, Bool·beq, and-true, and-false, or-true, and-eq-true-iff}
 use mathlib.Core.List.{[], _∷_, map}
 use lib.Dec.{eqb, ltb}
 use lib.ListN.{getD}

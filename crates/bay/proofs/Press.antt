@@ -5,7 +5,7 @@ use mathlib.Core.Path.{_≡_, refl, sym, ap, _∙_}
 use mathlib.Core.Logic.{_⊎_, inl, inr}
 use mathlib.Core.Bool.{Bool, true, false, not, cond, _&&_, _||_, Bool·beq, and-true, and-false, or-true, or-false, and-eq-true-iff, false≢true}
 use lib.Dec.{eqb, ltb}
-use borrow.Author.Tests.{eqb-true, eqb-false, ne-eqb, lt-ltb, ltb-true, ltb-false}
+use borrow.Author.Tests.{eqb-true, eqb-false, ne-eqb, lt-ltb, ltb-true}
 use Rattle.bits.specs.Bits.{bit}
 use Rattle.bay.specs.Record.{acceptedLevel, contact, hidden, shown, present}
 use Rattle.bay.specs.Debounce.{differs}
@@ -18,7 +18,7 @@ use Rattle.bay.specs.declared.Bay.{Bay}
 use Rattle.bay.specs.declared.Setting.{Setting}
 use Rattle.bay.proofs.Taut.{neither, taut, same}
 use Rattle.bay.proofs.Ticks.{wait-after}
-use Rattle.bay.proofs.Laws.{removal, stayed, pressed-sets, change-told}
+use Rattle.bay.proofs.Laws.{none-runs, removal, stayed, pressed-sets, change-told}
 use Rattle.bay.proofs.Table.{one-move, tick-table, write-table}
 use Rattle.bay.proofs.Named.{bcer-stores, present-shows}
 
@@ -57,7 +57,7 @@ none-above-0 n h = go (ltb 0 n) refl
   where
     go : (t : Bool) → ltb 0 n ≡ t → n ≡ 0
     go true e = absurd (h (ltb-true 0 n e))
-    go false e = omega (arith, ltb-false 0 n e)
+    go false e = none-runs n e
 
 -- One with no contact has no wait either, and no device.
 pub no-wait-without-contact : (hides : Bool) (b : Bay) → Sound hides b → contact b ≡ false → b .wait ≡ 0

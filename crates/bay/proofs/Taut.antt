@@ -10,6 +10,11 @@ pub pick : {A : Type 0} (P : A → Type 0) {m n : A} (t : Bool) → (t ≡ true 
 pick P true p q = p refl
 pick P false p q = q refl
 
+-- An answer that is the same either way is that answer.
+pub either-way : {A : Type 0} (x : A) (t : Bool) → cond t x x ≡ x
+either-way x true = refl
+either-way x false = refl
+
 -- Where one of two tests would do and none does, neither holds.
 pub neither : (p q : Bool) → (p || q) ≡ false → (p ≡ false) × (q ≡ false)
 neither true q h = absurd (true≢false h)

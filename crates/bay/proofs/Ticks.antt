@@ -15,6 +15,7 @@ use Rattle.bay.specs.declared.Bay.{Bay}
 use Rattle.bay.specs.declared.Control.{Control}
 use Rattle.bay.specs.declared.Input.{Input}
 use Rattle.bay.specs.declared.Setting.{Setting}
+use Rattle.bay.proofs.Taut.{either-way}
 use Rattle.bay.proofs.OneStep.{counting, steady-input}
 
 -- A bay after its inputs, but for its state, REMREQ_STS, DEVSTSCHG, BCER and wait.
@@ -54,11 +55,7 @@ three d (x ∷ y ∷ z ∷ w ∷ xs) h = absurd (omega arith)
 -- Where contact stays and no wait runs, none begins.
 pub no-wait : (hides : Bool) (ticks : ℕ) (b : Bay) → b .wait ≡ 0 → waitAfter hides ticks b (contact b) ≡ 0
 unfolding waitAfter contact
-no-wait hides ticks b w = rw (w, not-and-self) (either ((hides || contact b) && not (contact b)))
-  where
-    either : (t : Bool) → _≡_ {A = ℕ} (cond t 0 0) 0
-    either true = refl
-    either false = refl
+no-wait hides ticks b w = rw (w, not-and-self) (either-way 0 ((hides || contact b) && not (contact b)))
 
 differs-self : (t : Bool) → differs t t ≡ false
 differs-self true = refl

@@ -205,22 +205,20 @@ unseen s b l q =
       nothing-shows = (absent, none);
     }
 
+unseen-if : (hides : Bool) (s : Setting) (b : Bay) → 0 < b .wait → contact (tickedBay hides s b) ≡ false → hides ≡ true → Unseen b (tickedBay hides s b)
+unseen-if true s b l q e = unseen s b l q
+unseen-if false s b l q e = absurd (false≢true e)
+
 -- What breaks it off.
 breaks-off : (hides : Bool) (x : Happens) (b : Bay) → Sound hides b → 0 < b .wait → breaks hides x b ≡ true → Broken hides x b (happens hides x b)
 unfolding happens breaks
-breaks-off true (tick s) b h l q =
-    let gone = not-true (contact (tickedBay true s b)) (and-eq-true-iff (contact b) (not (contact (tickedBay true s b))) .0 q .1) in
+breaks-off hides (tick s) b h l q =
+    let gone = not-true (contact (tickedBay hides s b)) (and-eq-true-iff (contact b) (not (contact (tickedBay hides s b))) .0 q .1) in
+    let sound = ticked-sound hides s b h in
     record {
-      over = no-wait-without-contact true (tickedBay true s b) (ticked-sound true s b h) gone;
-      unmoved = empty-without-device true (tickedBay true s b) (ticked-sound true s b h) (no-device-without-contact true (tickedBay true s b) gone);
-      unseen = λ _. unseen s b l gone;
-    }
-breaks-off false (tick s) b h l q =
-    let gone = not-true (contact (tickedBay false s b)) (and-eq-true-iff (contact b) (not (contact (tickedBay false s b))) .0 q .1) in
-    record {
-      over = no-wait-without-contact false (tickedBay false s b) (ticked-sound false s b h) gone;
-      unmoved = empty-without-device false (tickedBay false s b) (ticked-sound false s b h) (no-device-without-contact false (tickedBay false s b) gone);
-      unseen = λ e. absurd (false≢true e);
+      over = no-wait-without-contact hides (tickedBay hides s b) sound gone;
+      unmoved = empty-without-device hides (tickedBay hides s b) sound (no-device-without-contact hides (tickedBay hides s b) gone);
+      unseen = unseen-if hides s b l gone;
     }
 breaks-off hides (pins levels) b h l q = absurd (false≢true q)
 breaks-off hides (bstr v) b h l q = absurd (false≢true q)

@@ -4,7 +4,7 @@ ghost use mathlib.Core.Path.{_≡_};
 ghost use mathlib.Core.Bool.{Bool, true, false};
 ghost use Prim.Native.Nat.{_-_};
 ghost use Rattle.bay.specs.Record.{contact as Record·contact, hidden, shown, present as Record·present};
-ghost use Rattle.bay.specs.Moves.{inputsOf, contactAfter, leaves, changes, movedBay, movedTo, tickedBay, rests, begins, begun, waitAfter, inserts, atOnce, stateAfter, controlAfter, inUse};
+ghost use Rattle.bay.specs.Moves.{inputsOf, leaves, changes, movedBay, movedTo, tickedBay, rests, begins, begun, waitAfter, inserts, atOnce, stateAfter, controlAfter, inUse};
 ghost use Rattle.bay.specs.declared.Setting.{Setting};
 use crate::Bay;
 use crate::Control;

@@ -1,18 +1,17 @@
 -- An act that leaves the outputs as they were does so. Assumes nothing.
 use Prim.Native.Nat.{ℕ, _/_, _%_}
-use mathlib.Core.Path.{_≡_, refl, ap, _∙_, sym}
-use mathlib.Core.Bool.{Bool, true, false, cond, _&&_, Bool·beq, and-eq-true-iff, true≢false}
-use mathlib.Core.List.{List, [], _∷_}
+use mathlib.Core.Path.{_≡_, refl, sym}
+use mathlib.Core.Bool.{Bool, true, false, cond, Bool·beq, and-eq-true-iff, true≢false}
+use mathlib.Core.List.{[], _∷_}
 use lib.Dec.{ltb}
-use lib.ListN.{length}
 use Rattle.bay.specs.declared.Bay.{Bay}
 use Rattle.bay.specs.declared.Setting.{Setting}
 use Rattle.bay.specs.Debounce.{sampledBay}
 use Rattle.bay.specs.Moves.{tickedBay, rests}
 use Rattle.bay.specs.Outputs.{bayOutputs, lockPin, green, yellow, interrupts}
 use Rattle.bay.proofs.Taut.{pick}
-use Rattle.bay.proofs.Ticks.{rested, at-rest}
-use Rattle.machine.specs.Record.{LIT, bay0, bay1, bayAt, bayIn, isOpen, openBy, become, hides}
+use Rattle.bay.proofs.Ticks.{rested}
+use Rattle.machine.specs.Record.{LIT, bayAt, bayIn, isOpen, openBy, become, hides}
 use Rattle.machine.specs.Registers.{settingOf}
 use Rattle.machine.specs.Outputs.{nibble, wants, outputs}
 use Rattle.machine.specs.Acts.{sampledAt, tickedAt, pinsTo, tickTo, nextPhase, does, restful, keepsLit, keeps}

@@ -2,7 +2,7 @@
 use mathlib.Core.Path.{_≡_, _∙_, sym}
 use mathlib.Core.Bool.{true, false}
 use borrow.Author.Needs.{needs}
-use Rattle.bay.specs.Moves.{leaves, contactAfter, waitAfter, movedBay}
+use Rattle.bay.specs.Moves.{leaves, movedBay}
 use Rattle.bay.proofs.Ticks.{left, stayed}
 use Rattle.bay.proofs.Bay.moved.Statement.{statement}
 use Rattle.bay.proofs.Bay.moved.Tie as tie

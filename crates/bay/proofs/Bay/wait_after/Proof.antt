@@ -1,5 +1,4 @@
 -- `bay::Bay::wait_after` meets its contract: each return has the tests that led there, which are the definition's in its order. Assumes nothing.
-use mathlib.Core.Path.{_∙_}
 use borrow.Author.Needs.{needs}
 use Rattle.bay.specs.Moves.{waitAfter}
 use Rattle.bay.proofs.Bay.wait_after.Statement.{statement}
