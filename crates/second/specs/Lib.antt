@@ -1,0 +1,4 @@
+pub mod Record
+pub mod Once
+pub mod Sfr
+pub mod First
