@@ -21,6 +21,7 @@ use Rattle.bay.proofs.Bay.bstr.Reads as bstr-reads
 use Rattle.bay.proofs.Bay.bcer.Reads as bcer-reads
 use Rattle.bay.proofs.Bay.«with_bstr».Reads as with-bstr-reads
 use Rattle.bay.proofs.Bay.controlled.Reads as controlled-reads
+use Rattle.bay.proofs.Bay.unlocked.Reads as unlocked-reads
 use Rattle.bay.proofs.Control.of.Reads as control-of-reads
 use Rattle.bay.proofs.Bay.outputs.Reads as outputs-reads
 use Rattle.bay.proofs.Bay.interrupt.Reads as interrupt-reads
@@ -65,6 +66,9 @@ with-bstr-determined b v r s p q = p ∙ sym q
 
 pub controlled-determined : (b : Bay) (hides : Bool) (c : Control) (g : Setting) (r s : Bay) → controlled-reads.Post tt (b, (hides, (c, (g, tt)))) r (b, (hides, (c, (g, tt)))) → controlled-reads.Post tt (b, (hides, (c, (g, tt)))) s (b, (hides, (c, (g, tt)))) → r ≡ s
 controlled-determined b hides c g r s p q = p ∙ sym q
+
+pub unlocked-determined : (b : Bay) (r s : Bay) → unlocked-reads.Post tt (b, tt) r (b, tt) → unlocked-reads.Post tt (b, tt) s (b, tt) → r ≡ s
+unlocked-determined b r s p q = p ∙ sym q
 
 pub control-of-determined : (v : ℕ) (r s : Control) → control-of-reads.Post tt (v, tt) r (v, tt) → control-of-reads.Post tt (v, tt) s (v, tt) → r ≡ s
 control-of-determined v r s p q = p ∙ sym q

@@ -10,7 +10,7 @@ use borrow.Author.Tests.{lt-ltb, le-leb, ltb-true, leb-true}
 use Rattle.bay.specs.Record.{N1394, NUSB, NREMREQ, EMPTY, INSERTED, REMOVAL-REQUESTED, REMOVAL-ALLOWED, MOST-PULSE, count, present, emptyBay, resetBay, bayFit}
 use Rattle.bay.specs.Debounce.{sampledBay}
 use Rattle.bay.specs.Moves.{input, leaves, inUse, inserts, atOnce, stateAfter, movedTo, movedBay, tickedBay}
-use Rattle.bay.specs.Registers.{bstrWritten, asks, finds, requestWritten, stateWritten, pulseWritten, controlledBay}
+use Rattle.bay.specs.Registers.{bstrWritten, asks, finds, requestWritten, stateWritten, pulseWritten, controlledBay, unlockedBay}
 use Rattle.bay.specs.declared.Bay.{Bay}
 use Rattle.bay.specs.declared.Control.{Control}
 use Rattle.bay.specs.declared.Setting.{Setting}
@@ -133,6 +133,12 @@ ticked-fit hides s b h =
 pub bstr-written-fit : (v : ℕ) (b : Bay) → bayFit b ≡ true → bayFit (bstrWritten v b) ≡ true
 unfolding bayFit bstrWritten
 bstr-written-fit v b h = h
+
+pub unlocked-fit : (b : Bay) → bayFit b ≡ true → bayFit (unlockedBay b) ≡ true
+unfolding unlockedBay
+unlocked-fit b h =
+    let f = fit-parts b .0 h in
+    fit-parts (unlockedBay b) .1 (record { n1394 = f .n1394; nusb = f .nusb; nremreq = f .nremreq; in-state = f .in-state; asked = f .asked; pulsed = omega arith })
 
 -- A pulse is as long as the ticks given at most, so these are bounded too.
 pub controlled-fit :

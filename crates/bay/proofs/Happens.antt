@@ -10,9 +10,9 @@ use Rattle.bay.specs.Record.{ticksFor, level, acceptedLevel, emptyBay, r
 use Rattle.bay.specs.Debounce.{sampledBay}
 use Rattle.bay.specs.Debounced.{Tick, atRest, sees, seesAll, Debounced}
 use Rattle.bay.specs.Moves.{movedTo, movedBay, tickedBay}
-use Rattle.bay.specs.Registers.{bstrWritten, controlledBay}
+use Rattle.bay.specs.Registers.{bstrWritten, controlledBay, unlockedBay}
 use Rattle.bay.specs.Sound.{Sound}
-use Rattle.bay.specs.Happens.{Happens, tick, pins, bstr, bcer, happens, happensAll, line, seenOf, seen}
+use Rattle.bay.specs.Happens.{Happens, tick, pins, bstr, bcer, unlock, happens, happensAll, line, seenOf, seen}
 use Rattle.bay.specs.declared.Bay.{Bay}
 use Rattle.bay.specs.declared.Setting.{Setting}
 use Rattle.bay.proofs.Debounced.{sees-more, debounced-as}
@@ -25,7 +25,7 @@ happens-more hides (x ∷ xs) ys b = happens-more hides xs ys (happens hides x b
 
 -- What an input sees of what happens is what becomes of it.
 pub input-sees : (hides : Bool) (x : Happens) (b : Bay) (i : ℕ) → i < 3 → line (happens hides x b) i ≡ seesAll (ticksFor i) (seenOf i x) (line b i)
-unfolding happens seesAll sees tickedBay movedBay movedTo sampledBay bstrWritten controlledBay
+unfolding happens seesAll sees tickedBay movedBay movedTo sampledBay bstrWritten controlledBay unlockedBay
 input-sees hides (tick s) b zero l = refl
 input-sees hides (tick s) b (suc zero) l = refl
 input-sees hides (tick s) b (suc (suc zero)) l = refl
@@ -36,6 +36,7 @@ input-sees hides (pins levels) b (suc (suc zero)) l = refl
 input-sees hides (pins levels) b (suc (suc (suc i))) l = absurd (omega arith)
 input-sees hides (bstr v) b i l = refl
 input-sees hides (bcer c s) b i l = refl
+input-sees hides unlock b i l = refl
 
 follows : (hides : Bool) (xs : List Happens) (b : Bay) (i : ℕ) → i < 3 → line (happensAll hides xs b) i ≡ seesAll (ticksFor i) (seen i xs) (line b i)
 unfolding happensAll seesAll

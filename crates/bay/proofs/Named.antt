@@ -11,7 +11,7 @@ use borrow.Author.Tests.{eqb-true, lt-ltb, ltb-true}
 use Rattle.bits.specs.Bits.{bit, put}
 use Rattle.bay.specs.Record.{N1394, NUSB, acceptedLevel, count, contact, hidden, shown, present, emptyBay, resetBay}
 use Rattle.bay.specs.Moves.{movedTo, movedBay, tickedBay}
-use Rattle.bay.specs.Registers.{bstrOf, bcerOf, bstrWritten, controlOf, pulseWritten, controlledBay}
+use Rattle.bay.specs.Registers.{bstrOf, bcerOf, bstrWritten, controlOf, pulseWritten, controlledBay, unlockedBay}
 use Rattle.bay.specs.Outputs.{lockPin, green, yellow, bayOutputs, interrupts}
 use Rattle.bay.specs.declared.Bay.{Bay}
 use Rattle.bay.specs.declared.Setting.{Setting}
@@ -118,6 +118,35 @@ bstr-clears v b =
       state-kept = refl;
       control-kept = refl;
       pulse-kept = refl;
+      wait-kept = refl;
+      inputs-kept = (refl, refl, refl, refl);
+    }
+
+-- ---- SFR
+
+-- Its first write makes LOCK_CTL, PWR_CTL and the pulse of a bay 0, and alters nothing else.
+pub record Unlocks (b after : Bay) : Type 0 where
+  pub unlocked : after .control .«lock_ctl» ≡ false
+  pub unpowered : after .control .«pwr_ctl» ≡ false
+  pub no-pulse : after .pulse ≡ 0
+  pub request-kept : after .control .request ≡ b .control .request
+  pub enables-kept : (after .control .«remreq_en» ≡ b .control .«remreq_en») × (after .control .«devstschg_en» ≡ b .control .«devstschg_en») × (after .control .«remevtwak_en» ≡ b .control .«remevtwak_en»)
+  pub state-kept : after .state ≡ b .state
+  pub flags-kept : (after .«remreq_sts» ≡ b .«remreq_sts») × (after .devstschg ≡ b .devstschg)
+  pub wait-kept : after .wait ≡ b .wait
+  pub inputs-kept : (after .levels ≡ b .levels) × (after .accepted ≡ b .accepted) × (after .counts ≡ b .counts) × (after .«n_sl» ≡ b .«n_sl»)
+
+pub bay-unlocks : (b : Bay) → Unlocks b (unlockedBay b)
+unfolding unlockedBay
+bay-unlocks b =
+    record {
+      unlocked = refl;
+      unpowered = refl;
+      no-pulse = refl;
+      request-kept = refl;
+      enables-kept = (refl, refl, refl);
+      state-kept = refl;
+      flags-kept = (refl, refl);
       wait-kept = refl;
       inputs-kept = (refl, refl, refl, refl);
     }

@@ -13,7 +13,7 @@ use borrow.Author.Tests.{eq-eqb, ne-eqb, eqb-true, eqb-false, lt-ltb, ltb-true, 
 use Rattle.bay.specs.Record.{N1394, NUSB, NREMREQ, EMPTY, INSERTED, ENABLED, contact, runs, hidden, present, level, acceptedLevel, count, emptyBay, resetBay, bayFit, withStatus}
 use Rattle.bay.specs.Debounce.{debounce, sampledBay}
 use Rattle.bay.specs.Moves.{input, contactAfter, heeded, inUse, begun, waitAfter, inserts, stateAfter, movedTo, movedBay, tickedBay}
-use Rattle.bay.specs.Registers.{bstrWritten, asks, finds, stateWritten, waitWritten, controlledBay}
+use Rattle.bay.specs.Registers.{bstrWritten, asks, finds, stateWritten, waitWritten, controlledBay, unlockedBay}
 use Rattle.bay.specs.Sound.{Sound}
 use Rattle.bay.specs.declared.Bay.{Bay}
 use Rattle.bay.specs.declared.Control.{Control}
@@ -279,6 +279,12 @@ controlled-sound hides c g b s =
       seating = place .seating;
       still = s .still;
     }
+
+-- No power is left over a lock that opens.
+pub unlocked-sound : (hides : Bool) (b : Bay) → Sound hides b → Sound hides (unlockedBay b)
+unfolding unlockedBay present contact
+unlocked-sound hides b s =
+    record { powered = λ w. absurd (false≢true w); held = s .held; waiting = s .waiting; seating = s .seating; still = s .still }
 
 -- Fitness alone doesn't make a bay sound: this one is fit, and powered with nothing in it.
 poweredAndEmpty : Bay

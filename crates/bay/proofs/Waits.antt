@@ -14,16 +14,16 @@ use Rattle.bay.specs.Registers.{controlOf, asks, finds, stateWritten, wa
 use Rattle.bay.specs.Outputs.{green, yellow}
 use Rattle.bay.specs.Table.{asksNothing}
 use Rattle.bay.specs.Sound.{Sound}
-use Rattle.bay.specs.Happens.{Happens, tick, pins, bstr, bcer, happens, happensAll}
+use Rattle.bay.specs.Happens.{Happens, tick, pins, bstr, bcer, unlock, happens, happensAll}
 use Rattle.bay.specs.Waits.{waitWrittenBy, lost, breaks, unbroken, oneTick, ticksOf, shownChanges, Seating, Seated, askedBy, Unseen, Broken, Waits}
 use Rattle.bay.specs.declared.Bay.{Bay}
 use Rattle.bay.specs.declared.Control.{Control}
 use Rattle.bay.specs.declared.Setting.{Setting}
 use Rattle.bay.proofs.Taut.{below-taut, same}
 use Rattle.bay.proofs.Laws.{tick-keeps-control, stayed, wait-falls, present-means, pressed-sets, change-told, sampled}
-use Rattle.bay.proofs.Named.{bstr-clears}
+use Rattle.bay.proofs.Named.{bstr-clears, bay-unlocks}
 use Rattle.bay.proofs.Press.{press-over-nothing, empty-without-device, none-above-0, no-wait-without-contact, no-device-without-contact, begun-from-0, coming-changes, coming}
-use Rattle.bay.proofs.Sound.{sampled-sound, ticked-sound, bstr-written-sound, controlled-sound}
+use Rattle.bay.proofs.Sound.{sampled-sound, ticked-sound, bstr-written-sound, controlled-sound, unlocked-sound}
 
 -- ---- in every bay: by a write; what a TICK makes of it is `wait-ticked` of Laws
 
@@ -87,6 +87,7 @@ happens-sound hides (tick s) b h = ticked-sound hides s b h
 happens-sound hides (pins levels) b h = sampled-sound hides levels b h
 happens-sound hides (bstr v) b h = bstr-written-sound hides v b h
 happens-sound hides (bcer c s) b h = controlled-sound hides c s b h
+happens-sound hides unlock b h = unlocked-sound hides b h
 
 all-sound : (hides : Bool) (xs : List Happens) (b : Bay) → Sound hides b → Sound hides (happensAll hides xs b)
 unfolding happensAll
@@ -120,6 +121,7 @@ one-less hides (tick s) b h l q = let touch = h .seating l .1 in wait-falls hide
 one-less hides (pins levels) b h l q = sampled levels b .wait-kept ∙ omega arith
 one-less hides (bstr v) b h l q = bstr-clears v b .wait-kept ∙ omega arith
 one-less hides (bcer c s) b h l q = written-on hides c s b (h .seating l .2) q ∙ omega arith
+one-less hides unlock b h l q = bay-unlocks b .wait-kept ∙ omega arith
 
 -- It runs as it did.
 seating : (hides : Bool) (n : ℕ) (b : Bay) → Sound hides b → b .wait ≡ n → 0 < n → Seating hides n b
@@ -227,6 +229,7 @@ breaks-off false (bcer c s) b h l q =
     let three = h .seating l in
     let off = written-off c s b (three .0, three .1, three .2 refl) q in
     record { over = off .0; unmoved = off .1; unseen = λ e. absurd (false≢true e) }
+breaks-off hides unlock b h l q = absurd (false≢true q)
 
 -- ---- the promise
 

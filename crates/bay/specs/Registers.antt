@@ -1,6 +1,6 @@
--- A bay's two registers (document 01, "Registers"): BSTR and BCER as they read, and what a write does.
+-- A bay's two registers (document 01, "Registers"): BSTR and BCER as they read, and what a write does, to them or to SFR.
 use Prim.Native.Nat.{ℕ, _+_, _*_, _/_, _%_}
-use mathlib.Core.Bool.{Bool, not, cond, _&&_, _||_}
+use mathlib.Core.Bool.{Bool, false, not, cond, _&&_, _||_}
 use lib.Dec.{eqb, ltb, leb}
 use Rattle.bits.specs.Bits.{bit, put}
 use Rattle.bay.specs.Record.{N1394, NUSB, acceptedLevel, shown, present, EMPTY, INSERTED, REMOVAL-REQUESTED, REMOVAL-ALLOWED, withStatus}
@@ -21,6 +21,21 @@ unfoldable pub bcerOf : Bay → ℕ
 bcerOf b =
     put 7 (b .control .«lock_ctl») + b .control .request % 8 * 16 + put 3 (b .control .«remreq_en») + put 2 (b .control .«devstschg_en»)
     + put 1 (b .control .«remevtwak_en») + put 0 (b .control .«pwr_ctl»)
+
+-- The first write of SFR opens the lock of both bays (document 03, "Registers"): LOCK_CTL, PWR_CTL and the pulse are 0, and no pulse starts.
+abbrev pub controlUnlocked : Control → Control
+controlUnlocked c =
+    record {
+      «lock_ctl» = false;
+      request = c .request;
+      «remreq_en» = c .«remreq_en»;
+      «devstschg_en» = c .«devstschg_en»;
+      «remevtwak_en» = c .«remevtwak_en»;
+      «pwr_ctl» = false;
+    }
+
+unfoldable pub unlockedBay : Bay → Bay
+unlockedBay b = withStatus (b .state) (b .«remreq_sts») (b .devstschg) (controlUnlocked (b .control)) 0 (b .wait) b
 
 -- BSTR: writing 1 to bit 3 or 2 clears it; other bits are ignored.
 unfoldable pub bstrWritten : ℕ → Bay → Bay

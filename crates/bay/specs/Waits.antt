@@ -12,7 +12,7 @@ use Rattle.bay.specs.Moves.{tickedBay}
 use Rattle.bay.specs.Registers.{asks}
 use Rattle.bay.specs.Outputs.{green, yellow}
 use Rattle.bay.specs.Table.{pressOver, asksNothing}
-use Rattle.bay.specs.Happens.{Happens, tick, pins, bstr, bcer, happens, happensAll}
+use Rattle.bay.specs.Happens.{Happens, tick, pins, bstr, bcer, unlock, happens, happensAll}
 use Rattle.bay.specs.declared.Bay.{Bay}
 use Rattle.bay.specs.declared.Setting.{Setting}
 
@@ -52,6 +52,7 @@ breaks hides (tick s) b = lost hides s b
 breaks hides (pins levels) b = false
 breaks hides (bstr v) b = false
 breaks hides (bcer c s) b = not hides && (not (c .«devstschg_en») || asks c && present hides b)
+breaks hides unlock b = false
 
 unfoldable pub unbroken : Bool → List Happens → Bay → Bool
 unbroken hides [] b = true
@@ -63,6 +64,7 @@ oneTick (tick s) = 1
 oneTick (pins levels) = 0
 oneTick (bstr v) = 0
 oneTick (bcer c s) = 0
+oneTick unlock = 0
 
 abbrev pub ticksOf : List Happens → ℕ
 ticksOf [] = 0
@@ -101,6 +103,7 @@ askedBy (tick s) = 0
 askedBy (pins levels) = 0
 askedBy (bstr v) = 0
 askedBy (bcer c s) = cond (asks c) (c .request) 0
+askedBy unlock = 0
 
 -- A hidden device that is gone again changes no register: neither BSTR, in its flags and its presence bits, nor BCER.
 pub record Unseen (before after : Bay) : Type 0 where

@@ -1,6 +1,6 @@
 // A bay's two registers (document 01, "Registers"): BSTR and BCER as they read, and what a write does.
 ghost use mathlib.Core.Path.{_≡_};
-ghost use Rattle.bay.specs.Registers.{bstrOf, bcerOf, bstrWritten, controlOf, asks, finds, stateWritten, waitWritten, requestWritten, controlWritten, pulseWritten, controlledBay};
+ghost use Rattle.bay.specs.Registers.{bstrOf, bcerOf, bstrWritten, controlOf, asks, finds, stateWritten, waitWritten, requestWritten, controlWritten, pulseWritten, controlledBay, controlUnlocked, unlockedBay};
 use crate::Bay;
 use crate::Control;
 use crate::Setting;
@@ -53,6 +53,27 @@ impl Bay {
             state: self.state,
             control,
             pulse: self.pulse,
+            wait: self.wait,
+            n_sl: self.n_sl,
+        }
+    }
+
+    // The lock opens, as SFR is first written: power goes with it, and there is no pulse.
+    pub fn unlocked(self) -> Bay
+        ensures { λ r. ⌜ r ≡ unlockedBay self ⌝ }
+    {
+        let levels = self.levels;
+        let counts = self.counts;
+        let accepted = self.accepted;
+        Bay {
+            levels,
+            counts,
+            accepted,
+            remreq_sts: self.remreq_sts,
+            devstschg: self.devstschg,
+            state: self.state,
+            control: self.control.unlocked(),
+            pulse: 0,
             wait: self.wait,
             n_sl: self.n_sl,
         }
@@ -146,6 +167,15 @@ impl Control {
             remevtwak_en: has(value, 2),
             pwr_ctl: has(value, 1),
         }
+    }
+
+    // LOCK_CTL 0, PWR_CTL 0.
+    fn unlocked(mut self) -> Control
+        ensures { λ r. ⌜ r ≡ controlUnlocked self ⌝ }
+    {
+        self.lock_ctl = false;
+        self.pwr_ctl = false;
+        self
     }
 
     // A request that is stored: 0 and 5-7 keep the old one.
