@@ -23,32 +23,30 @@ exactly state to test e = (λ h. sym e ∙ eq-eqb state to h, λ t. eqb-true sta
 
 -- ---- a TICK
 
--- The state after it, by the state before and ten tests: whether a wait hides the device, a device before and after, DEVSTSCHG_EN, no
--- ticks to wait, a wait of 1, nREMREQ as accepted before and after, REMREQ_EN and REMREQ_STS. And the table by the same tests.
-abbrev stateBy : ℕ → Bool → Bool → Bool → Bool → Bool → Bool → Bool → Bool → Bool → Bool → ℕ
-stateBy from h p q en z w l m req sts =
-    cond (p && not q) 0
-    (cond (cond (not p && q && en) (h || z) (not h && w)) 1 (cond (l && not m && q && req && not sts && (eqb from 1 || eqb from 2)) 3 from))
+-- The state after it, by the state before and nine tests: a device before and after, DEVSTSCHG_EN, a device that comes Inserted at once, a
+-- wait that hides nothing and is of 1, nREMREQ as accepted before and after, REMREQ_EN and REMREQ_STS. And the table by the same tests.
+abbrev stateBy : ℕ → Bool → Bool → Bool → Bool → Bool → Bool → Bool → Bool → Bool → ℕ
+stateBy from p q en z w l m req sts =
+    cond (p && not q) 0 (cond (cond (not p && q && en) z w) 1 (cond (l && not m && q && req && not sts && (eqb from 1 || eqb from 2)) 3 from))
 
-abbrev tableBy : Bool → Bool → Bool → Bool → Bool → Bool → Bool → Bool → Bool → Bool → Table
-tableBy h p q en z w l m req sts =
+abbrev tableBy : Bool → Bool → Bool → Bool → Bool → Bool → Bool → Bool → Bool → Table
+tableBy p q en z w l m req sts =
     let gone = p && not q in
     let noticed = not p && q && en in
-    let come = noticed && (h || z) in
-    let seated = not gone && not noticed && (not h && w) in
+    let come = noticed && z in
+    let seated = not gone && not noticed && w in
     let press = not gone && not come && not seated && (l && not m && q) && req && not sts in
     tickRows gone (come || seated) press (not gone && not come && not seated && not press)
 
 -- The entry is the test for that state.
-abbrev tickEntry : ℕ → ℕ → Fun 10
-tickEntry from to h p q en z w l m req sts =
-    Bool·beq (eqb (stateBy from h p q en z w l m req sts) to) (entry (tableBy h p q en z w l m req sts) from to)
+abbrev tickEntry : ℕ → ℕ → Fun 9
+tickEntry from to p q en z w l m req sts = Bool·beq (eqb (stateBy from p q en z w l m req sts) to) (entry (tableBy p q en z w l m req sts) from to)
 
 -- That is the state after it, in every bay.
 tick-state :
     (hides : Bool) (s : Setting) (b : Bay)
     → tickedBay hides s b .state
-    ≡ stateBy (b .state) hides (present hides b) (present hides (tickedBay hides s b)) (b .control .«devstschg_en») (eqb (s .«wait_ticks») 0) (eqb (b .wait) 1) (acceptedLevel b NREMREQ) (acceptedLevel (tickedBay hides s b) NREMREQ) (b .control .«remreq_en») (b .«remreq_sts»)
+    ≡ stateBy (b .state) (present hides b) (present hides (tickedBay hides s b)) (b .control .«devstschg_en») (hides || eqb (s .«wait_ticks») 0) (not hides && eqb (b .wait) 1) (acceptedLevel b NREMREQ) (acceptedLevel (tickedBay hides s b) NREMREQ) (b .control .«remreq_en») (b .«remreq_sts»)
 unfolding tickedBay movedBay movedTo stateAfter inserts inUse
 tick-state hides s b = rw (← (heeded-after hides s b), present-after hides s b)
 
@@ -82,9 +80,9 @@ tick-table hides s b h to k =
     exactly _ to _
     (rw (tick-state hides s b)
     (same _ _
-    (taut 10 (tickEntry (b .state) to)
-    (below 5 (λ to. All 10 (tickEntry (b .state) to)) (below 5 (λ from. Below 5 (λ to. All 10 (tickEntry from to))) refl (b .state) h) to k)
-    hides (present hides b) (present hides (tickedBay hides s b)) (b .control .«devstschg_en») (eqb (s .«wait_ticks») 0) (eqb (b .wait) 1)
+    (taut 9 (tickEntry (b .state) to)
+    (below 5 (λ to. All 9 (tickEntry (b .state) to)) (below 5 (λ from. Below 5 (λ to. All 9 (tickEntry from to))) refl (b .state) h) to k)
+    (present hides b) (present hides (tickedBay hides s b)) (b .control .«devstschg_en») (hides || eqb (s .«wait_ticks») 0) (not hides && eqb (b .wait) 1)
     (acceptedLevel b NREMREQ) (acceptedLevel (tickedBay hides s b) NREMREQ) (b .control .«remreq_en») (b .«remreq_sts»))))
 
 -- ---- a write of BCER

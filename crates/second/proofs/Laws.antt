@@ -10,7 +10,7 @@ use lib.Dec.{eqb, leb}
 use borrow.Author.Tests.{leb-true, le-leb, ltb-true, lt-ltb, eq-eqb, ne-eqb}
 use Rattle.bits.specs.Bits.{put}
 use Rattle.second.specs.Record.{byte, flag, fresh, reset, fits}
-use Rattle.second.specs.Once.{once, subsystemWritten, formFactorWritten, sfrWritten}
+use Rattle.second.specs.Once.{subsystemWritten, formFactorWritten, sfrWritten}
 use Rattle.second.specs.Sfr.{ito, sol, spd, waitTicks, pulsed, pulseTicks}
 use Rattle.second.specs.First.{Write, subsystem, form-factor, sfr, written}
 use Rattle.second.specs.declared.Second.{Second}
