@@ -34,8 +34,8 @@ empty-determined r s p q = p ∙ sym q
 pub reset-determined : (levels : ℕ) (lock : Bool) (r s : Bay) → reset-reads.Post tt (levels, (lock, tt)) r (levels, (lock, tt)) → reset-reads.Post tt (levels, (lock, tt)) s (levels, (lock, tt)) → r ≡ s
 reset-determined levels lock r s p q = p ∙ sym q
 
-pub fit-determined : (b : Bay) (r s : Bool) → fit-reads.Post tt (b, tt) r (b, tt) → fit-reads.Post tt (b, tt) s (b, tt) → r ≡ s
-fit-determined b r s p q = p ∙ sym q
+pub fit-determined : (b : Bay) (p w : ℕ) (r s : Bool) → fit-reads.Post tt (b, (p, (w, tt))) r (b, (p, (w, tt))) → fit-reads.Post tt (b, (p, (w, tt))) s (b, (p, (w, tt))) → r ≡ s
+fit-determined b p w r s e f = e ∙ sym f
 
 pub sampled-determined : (b : Bay) (levels : ℕ) (r s : Bay) → sampled-reads.Post tt (b, (levels, tt)) r (b, (levels, tt)) → sampled-reads.Post tt (b, (levels, tt)) s (b, (levels, tt)) → r ≡ s
 sampled-determined b levels r s p q = p ∙ sym q

@@ -301,6 +301,6 @@ poweredAndEmpty = withStatus EMPTY false false powered 0 0 emptyBay
           «pwr_ctl» = true;
         }
 
-pub sound-is-more-than-fit : (b : Bay) × (bayFit b ≡ true) × ((hides : Bool) → Sound hides b → ⊥)
+pub sound-is-more-than-fit : (b : Bay) × (bayFit 0 0 b ≡ true) × ((hides : Bool) → Sound hides b → ⊥)
 unfolding poweredAndEmpty emptyBay bayFit present contact
 sound-is-more-than-fit = (poweredAndEmpty, refl, λ hides s. false≢true (sym (and-false (not (hidden hides 0))) ∙ s .powered refl .1))

@@ -81,10 +81,6 @@ REMREQ-TICKS = 5
 abbrev pub ticksFor : ℕ → ℕ
 ticksFor i = cond (eqb i NREMREQ) REMREQ-TICKS PRESENCE-TICKS
 
--- The longest pulse, 200 ticks.
-abbrev pub MOST-PULSE : ℕ
-MOST-PULSE = 200
-
 -- ---- a bay in two halves, each changed without the other
 
 -- What it senses: levels, accepted levels, counts and nSL.
@@ -172,8 +168,10 @@ abbrev pub eachBelow : ℕ → (ℕ → Bool) → Bool
 eachBelow zero test = true
 eachBelow (suc n) test = eachBelow n test && test n
 
--- .. bay state 0-4, stored request 0-4, pulse 0-200; any wait is fit.
-unfoldable pub bayFit : Bay → Bool
-bayFit b =
+-- .. bay state 0-4, stored request 0-4; pulse and wait up to the longest of each that there are in this kind of controller (document 03,
+-- "State").
+unfoldable pub bayFit : ℕ → ℕ → Bay → Bool
+bayFit mostPulse mostWait b =
     eachBelow INPUTS (countFits (b .counts)) && leb (b .state) REMOVAL-ALLOWED && leb (b .control .request) REMOVAL-ALLOWED
-    && leb (b .pulse) MOST-PULSE
+    && leb (b .pulse) mostPulse
+    && leb (b .wait) mostWait

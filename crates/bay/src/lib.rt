@@ -23,9 +23,9 @@ pub struct Bay {
     // BCER.
     pub control: Control,
     // For how many ticks more the lock pin gives a pulse.
-    pub pulse: u8,
+    pub pulse: u16,
     // For how many ticks more a device seats before the bay is Inserted.
-    pub wait: u8,
+    pub wait: u16,
     // nSL as last sampled: it is not debounced.
     pub n_sl: bool,
 }
@@ -43,8 +43,6 @@ impl Bay {
     pub const PRESENCE_TICKS: u8 = 10;
 
     pub const REMREQ_TICKS: u8 = 5;
-    // The longest pulse that a lock time makes.
-    pub const MOST_PULSE: u8 = 200;
     // Bay states.
     pub const EMPTY: u8 = 0;
 
@@ -73,9 +71,9 @@ pub struct Setting {
     // The lock pin gives a pulse, high or low, of so many ticks as LOCK_CTL falls; else it is LOCK_CTL.
     pub pulsed: bool,
     pub pulse_high: bool,
-    pub pulse_ticks: u8,
+    pub pulse_ticks: u16,
     // For so many ticks a device seats that arrives.
-    pub wait_ticks: u8,
+    pub wait_ticks: u16,
 }
 
 // One input after a TICK.

@@ -13,21 +13,21 @@ use crate::debounce::debounced;
 use crate::debounce::ticks_for;
 
 // A device that seats is hidden, where a wait does that.
-pub(crate) fn hidden(hides: bool, wait: u8) -> bool
+pub(crate) fn hidden(hides: bool, wait: u16) -> bool
     ensures { λ r. ⌜ r ≡ hidden hides wait ⌝ }
 {
     hides & (0 < wait)
 }
 
 // A presence bit shows its contact, unless the device is hidden.
-pub(crate) fn shown(hides: bool, wait: u8, accepted: bool) -> bool
+pub(crate) fn shown(hides: bool, wait: u16, accepted: bool) -> bool
     ensures { λ r. ⌜ r ≡ shown hides wait accepted ⌝ }
 {
     !hidden(hides, wait) & !accepted
 }
 
 // A device that comes, or that a write finds, is Inserted at once.
-pub(crate) fn at_once(hides: bool, ticks: u8) -> bool
+pub(crate) fn at_once(hides: bool, ticks: u16) -> bool
     ensures { λ r. ⌜ r ≡ atOnce hides ticks ⌝ }
 {
     hides | (ticks == 0)
@@ -70,7 +70,7 @@ impl Bay {
     }
 
     // The wait after a TICK with this contact.
-    fn wait_after(self, hides: bool, ticks: u8, now: bool) -> u8
+    fn wait_after(self, hides: bool, ticks: u16, now: bool) -> u16
         ensures { λ r. ⌜ r ≡ waitAfter hides ticks self now ⌝ }
     {
         let before = self.contact();
@@ -85,7 +85,7 @@ impl Bay {
     }
 
     // A TICK in which no device leaves makes the bay Inserted.
-    fn inserts(self, hides: bool, ticks: u8, arrives: bool) -> bool
+    fn inserts(self, hides: bool, ticks: u16, arrives: bool) -> bool
         ensures { λ r. ⌜ r ≡ inserts hides ticks self arrives ⌝ }
     {
         if arrives & self.control.devstschg_en {
@@ -96,7 +96,7 @@ impl Bay {
     }
 
     // The one move of such a TICK.
-    fn state_after(self, hides: bool, ticks: u8, arrives: bool, heeded: bool) -> u8
+    fn state_after(self, hides: bool, ticks: u16, arrives: bool, heeded: bool) -> u8
         ensures { λ r. ⌜ r ≡ stateAfter hides ticks self false arrives heeded ⌝ }
     {
         if self.inserts(hides, ticks, arrives) {
@@ -109,7 +109,7 @@ impl Bay {
     }
 
     // A presence bit shows another contact after a TICK with this wait and these inputs.
-    fn changes(self, hides: bool, wait: u8, inputs: Inputs) -> bool
+    fn changes(self, hides: bool, wait: u16, inputs: Inputs) -> bool
         ensures { λ r. ⌜ r ≡ changes hides self wait (inputs .n1394) (inputs .nusb) ⌝ }
     {
         let accepted = self.accepted;
@@ -149,7 +149,7 @@ impl Bay {
     }
 
     // A device leaves in a TICK with this wait and these inputs, whatever ticks there are to wait. The pulse has fallen already.
-    fn left(self, hides: bool, pulse: u8, wait: u8, change: bool, inputs: Inputs) -> Bay
+    fn left(self, hides: bool, pulse: u16, wait: u16, change: bool, inputs: Inputs) -> Bay
         requires { ⌜ pulse ≡ self .pulse - 1 ⌝ }
         requires { ⌜ change ≡ changes hides self wait (inputs .n1394) (inputs .nusb) ⌝ }
         requires { ⌜ leaves hides self wait (inputs .n1394) (inputs .nusb) ≡ true ⌝ }
@@ -175,7 +175,7 @@ impl Bay {
     }
 
     // What a TICK makes of the bay, with its inputs. A press is heeded only over a device, so not as one leaves.
-    pub fn moved(self, hides: bool, ticks: u8, inputs: Inputs) -> Bay
+    pub fn moved(self, hides: bool, ticks: u16, inputs: Inputs) -> Bay
         ensures { λ r. ⌜ r ≡ movedBay hides ticks self (inputs .n1394) (inputs .nusb) (inputs .nremreq) ⌝ }
     {
         let n1394 = inputs.n1394;
@@ -235,14 +235,14 @@ impl Control {
 }
 
 // A pulse or a wait above 0 falls by one.
-fn fallen(ticks: u8) -> u8
+fn fallen(ticks: u16) -> u16
     ensures { λ r. ⌜ r ≡ ticks - 1 ⌝ }
 {
     if ticks == 0 { 0 } else { ticks - 1 }
 }
 
 // A wait begins with so many ticks; with 0 none begins.
-pub(crate) fn begun(ticks: u8, wait: u8) -> u8
+pub(crate) fn begun(ticks: u16, wait: u16) -> u16
     ensures { λ r. ⌜ r ≡ begun ticks wait ⌝ }
 {
     if ticks == 0 { wait } else { ticks }

@@ -62,15 +62,16 @@ impl Bay {
         }
     }
 
-    // Whether each number of the record is one that the rules can make.
-    pub fn fit(self) -> bool
-        ensures { λ r. ⌜ r ≡ bayFit self ⌝ }
+    // Whether each number of the record is one that the rules can make, with pulses and waits up to these.
+    pub fn fit(self, most_pulse: u16, most_wait: u16) -> bool
+        ensures { λ r. ⌜ r ≡ bayFit «most_pulse» «most_wait» self ⌝ }
     {
         let counts = self.counts;
         counts_fit(counts)
             & (self.state <= Bay::REMOVAL_ALLOWED)
             & (self.control.request <= Bay::REMOVAL_ALLOWED)
-            & (self.pulse <= Bay::MOST_PULSE)
+            & (self.pulse <= most_pulse)
+            & (self.wait <= most_wait)
     }
 }
 

@@ -87,7 +87,7 @@ impl Bay {
     }
 
     // The state after a write: the first move that applies.
-    fn state_written(self, hides: bool, c: Control, present: bool, ticks: u8) -> u8
+    fn state_written(self, hides: bool, c: Control, present: bool, ticks: u16) -> u8
         ensures { λ r. ⌜ r ≡ stateWritten hides ticks c present self ⌝ }
     {
         if c.asks() & present {
@@ -104,7 +104,7 @@ impl Bay {
 
     // The wait after a write: one that hides the device goes on; else DEVSTSCHG_EN written 0 or a request over a device ends
     // it, and a device that is found begins one.
-    fn wait_written(self, hides: bool, c: Control, present: bool, ticks: u8) -> u8
+    fn wait_written(self, hides: bool, c: Control, present: bool, ticks: u16) -> u16
         ensures { λ r. ⌜ r ≡ waitWritten hides ticks c present self ⌝ }
     {
         if hides {
@@ -121,7 +121,7 @@ impl Bay {
     }
 
     // Where the lock is pulsed, LOCK_CTL from 1 to 0 starts a pulse of `ticks`.
-    fn pulse_written(self, c: Control, pulsed: bool, ticks: u8) -> u8
+    fn pulse_written(self, c: Control, pulsed: bool, ticks: u16) -> u16
         ensures { λ r. ⌜ r ≡ pulseWritten c pulsed ticks self ⌝ }
     {
         if pulsed & self.control.lock_ctl & !c.lock_ctl {

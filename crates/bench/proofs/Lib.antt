@@ -1,3 +1,3 @@
 pub mod Inputs
-pub mod Ticks
+pub mod InTurn
 pub mod Theorems

@@ -3,31 +3,32 @@ use Prim.Native.Nat.{ℕ, _*_}
 use native.Mathlib.Omega.{arith}
 use mathlib.Core.Bool.{Bool, true, false}
 use mathlib.Core.Path.{_≡_, refl}
-use mathlib.Core.List.{List, [], _∷_, _++_, map}
+use mathlib.Core.List.{List, [], _∷_, _++_, map, flatten}
 use lib.ListN.{length}
 use borrow.Author.Tests.{ne-eqb}
 use Rattle.bytes.specs.Bytes.{indexOf}
 use Rattle.script.specs.Text.{characters, blank, leading, trimmed, first, rest, spelled, spelled64}
 use Rattle.script.specs.Verbs.{name, verbs, verbOf}
-use Rattle.script.specs.Arguments.{digitOf, isOctet, octetOf, wordOf as wordIn, pairOf, countFrom, countOf, ticksOf}
+use Rattle.script.specs.Arguments.{digitOf, isOctet, octetOf, wordOf as wordIn, pairOf, countFrom, countOf, ticksOf, isSmall, smallOf, furtherOf, followsAt, allFurther, furtherValues}
 use Rattle.script.specs.Hands.{only, bayOf, kindOf, pulls, raises, insertLine, handLine}
-use Rattle.script.specs.Lines.{given, resetLine, takeLine, writeLine, orderLine, verbLine, plain, argumentOf, textLine, lineOf}
+use Rattle.script.specs.Lines.{given, resetLine, takeLine, writeLine, span, readLine, orderLine, verbLine, plain, argumentOf, textLine, lineOf}
 use Rattle.script.specs.declared.Order.{Order}
 use Rattle.script.specs.declared.Line.{Line}
 use Rattle.script.specs.declared.Line.the-variants.{Blank, Unknown, Misused, Mishandled, Does}
-use Rattle.script.specs.declared.Order.the-variants.{Event as One, Ticks, Write, Address, Load}
+use Rattle.script.specs.declared.Order.the-variants.{Event as One, Ticks, Write, Address, Load, Name}
 use Rattle.script.proofs.OneWord.{load-argument, load-line}
 use Rattle.event.specs.Words.{unpacked, wordOf, strapsOf, packed, Bytes}
 use Rattle.event.specs.declared.Event.{Event}
 use Rattle.event.specs.declared.Event.the-variants.{Pins, Reset}
 use Rattle.event.specs.declared.Packed.the-variants.{Word}
 use Rattle.event.proofs.Theorems.{pack-then-unpack}
+use Rattle.second.specs.Record.{fits as secondFits}
 use Rattle.bay.specs.Record.{emptyBay, resetBay, bayFit}
 use Rattle.machine.specs.Record.{bayIn, freshMachine, fits}
 use Rattle.dock.specs.Answers.{refusalOf}
 use Rattle.dock.specs.Examples.{R, N, w, pins, ticks}
 use Rattle.dock.specs.Record.{freshController}
-use Rattle.dock.specs.Run.{after}
+use Rattle.dock.specs.Run.{after, naming, afterCall}
 use Rattle.dock.specs.Step.{stepOf}
 use Rattle.dock.specs.declared.Controller.{Controller}
 use Rattle.image.specs.Layout.{BYTES}
@@ -36,35 +37,40 @@ use Rattle.image.specs.Save.{saved}
 use Rattle.image.specs.Shape.{Shaped}
 use Rattle.image.proofs.RoundTrip.{saved-length}
 use Rattle.paste.specs.Digits.{hexOf, leadingDigits, bytesOf}
-use Rattle.paste.specs.Ranges.{firstOut}
+use Rattle.paste.specs.Ranges.{lasts, firstOut, outOf}
 use Rattle.paste.specs.Findings.{isFit, findingOf, judged, unread, pastedOf}
 use Rattle.paste.proofs.Theorems.{Octets, two-each, one-word, state-back}
 use Rattle.bench.specs.Levels.{pulled, raised, givenBy, levelsAfter, bayLevels, levelsIn}
-use Rattle.bench.specs.Orders.{wordsOf, freshBench, sentOf, afterWords, loadedBy, obeyed, does, heeded}
-use Rattle.bench.specs.Examples.{Example, typedWords, examples, Loading, loadedWords, loadings}
+use Rattle.bench.specs.Orders.{wordsOf, freshBench, sentOf, afterWords, namedAs, loadedBy, obeyed, does, heeded}
+use Rattle.bench.specs.Examples.{Example, wordsTyped, typedWords, examples, traceLines, traceWords, Loading, loadedWords, loadings}
 use Rattle.bench.specs.declared.Bench.{Bench}
 
 -- What is typed as the paper writes it sends the words of the paper's examples P1 to P12, whatever the levels are.
 pub record AsInThePaper : Type 0 where
-  pub R-typed : (l : ℕ) → wordsOf 0x90 l (One (Reset 0 0xBF false)) ≡ R
-  pub N-typed : (l : ℕ) → wordsOf 0x90 l (One (Reset 0 0xFF false)) ≡ N
-  pub P12-typed : (l : ℕ) → wordsOf 0x90 l (One (Reset 1 0xFF true)) ≡ 0xD1FF ∷ []
-  pub w-typed : (l r v : ℕ) → wordsOf 0x90 l (Write r v) ≡ w r v
-  pub pins-typed : (l p : ℕ) → wordsOf 0x90 l (One (Pins p)) ≡ pins p
-  pub ticks-typed : (l n : ℕ) → wordsOf 0x90 l (Ticks n) ≡ ticks n
+  pub R-typed : (l : ℕ) (t : List ℕ) → wordsOf 0x90 l (One (Reset 0 0xBF false)) t ≡ R
+  pub N-typed : (l : ℕ) (t : List ℕ) → wordsOf 0x90 l (One (Reset 0 0xFF false)) t ≡ N
+  pub P12-typed : (l : ℕ) (t : List ℕ) → wordsOf 0x90 l (One (Reset 1 0xFF true)) t ≡ 0xD1FF ∷ []
+  pub w-typed : (l r v : ℕ) (t : List ℕ) → wordsOf 0x90 l (Write r v 0) t ≡ w r v
+  pub pins-typed : (l p : ℕ) (t : List ℕ) → wordsOf 0x90 l (One (Pins p)) t ≡ pins p
+  pub ticks-typed : (l n : ℕ) (t : List ℕ) → wordsOf 0x90 l (Ticks n) t ≡ ticks n
 
 pub as-in-the-paper : AsInThePaper
-unfolding wordsOf packed wordOf strapsOf
-as-in-the-paper = record { R-typed = λ l. refl; N-typed = λ l. refl; P12-typed = λ l. refl; w-typed = λ l r v. refl; pins-typed = λ l p. refl; ticks-typed = λ l n. refl }
+unfolding wordsOf packed wordOf strapsOf furtherValues
+as-in-the-paper = record { R-typed = λ l t. refl; N-typed = λ l t. refl; P12-typed = λ l t. refl; w-typed = λ l r v t. refl; pins-typed = λ l p t. refl; ticks-typed = λ l n t. refl }
 
 -- Each of the examples sends the words written there.
 pub examples-hold : map typedWords examples ≡ map (λ (e : Example). e .words) examples
-unfolding examples unpacked wordsOf pulled raised packed wordOf strapsOf indexOf lineOf plain textLine verbLine orderLine handLine insertLine pulls raises only bayOf kindOf given resetLine takeLine writeLine octetOf isOctet digitOf wordIn pairOf ticksOf countOf countFrom verbOf verbs name spelled spelled64 trimmed first rest leading blank
+unfolding examples unpacked wordsOf pulled raised packed wordOf strapsOf indexOf lineOf argumentOf plain textLine verbLine orderLine handLine insertLine pulls raises only bayOf kindOf given resetLine takeLine writeLine span readLine furtherOf followsAt allFurther furtherValues octetOf isOctet digitOf wordIn pairOf ticksOf isSmall smallOf countOf countFrom verbOf verbs name spelled spelled64 trimmed first rest leading blank
 examples-hold = refl
 
+-- Document 03's trace is typed in four lines.
+pub trace-typed : flatten (map (wordsTyped 0xFF) traceLines) ≡ traceWords
+unfolding traceLines traceWords flatten unpacked wordsOf packed wordOf strapsOf indexOf lineOf argumentOf plain textLine verbLine orderLine given resetLine takeLine writeLine span readLine furtherOf followsAt allFurther furtherValues octetOf isOctet digitOf wordIn pairOf verbOf verbs name spelled spelled64 trimmed first rest leading blank
+trace-typed = refl
+
 -- After `at 96` a whole write begins with that byte.
-pub at-stays : (b : Bench) (t : List ℕ) (l : ℕ) → wordsOf (obeyed (Address 0x96) t b .address) l (Write 0x14 0x04) ≡ 0x0000 ∷ 0x4096 ∷ 0x4014 ∷ 0x4004 ∷ 0x2000 ∷ []
-unfolding wordsOf obeyed packed wordOf strapsOf
+pub at-stays : (b : Bench) (t : List ℕ) (l : ℕ) → wordsOf (obeyed (Address 0x96) t b .address) l (Write 0x14 0x04 0) t ≡ 0x0000 ∷ 0x4096 ∷ 0x4014 ∷ 0x4004 ∷ 0x2000 ∷ []
+unfolding wordsOf obeyed packed wordOf strapsOf furtherValues
 at-stays b t l = refl
 
 -- The dock on the bench is one that was given the words, by one single call after the other; the levels don't come into it.
@@ -72,6 +78,11 @@ pub dock-follows : (ws : List ℕ) (b : Bench) → afterWords b ws .controller �
 unfolding afterWords after sentOf
 dock-follows [] b = refl
 dock-follows (v ∷ ws) b = dock-follows ws (sentOf b v .bench)
+
+-- A line that names a kind is the dock's naming call; what the host speaks to and the levels stay.
+pub dock-named : (n : ℕ) (t : List ℕ) (b : Bench) → obeyed (Name n) t b ≡ record { controller = afterCall (b .controller) (naming n); address = b .address; levels = b .levels }
+unfolding obeyed namedAs
+dock-named n t b = refl
 
 -- The levels are those of the last PINS or RESET that was not refused: an event gives its own ..
 pub levels-given : (e : Event) → Bytes e → (v : ℕ) → packed e ≡ Word v → (b : Bench) → refusalOf (stepOf (b .controller) v .answer) ≡ 0
@@ -119,7 +130,7 @@ damage-kept t b damaged = rw damaged
 
 -- After a `load` the next line goes over the levels of the loaded state, or, after a damaged one, over those that were there.
 pub loadings-hold : map loadedWords loadings ≡ map (λ (e : Loading). e .words) loadings
-unfolding loadings heeded obeyed loadedBy isFit pastedOf judged findingOf unread leadingDigits bytesOf firstOut loadOf verdictOn sizedVerdict progressVerdict firstOver stateIn fits bayIn bayFit levelsIn bayLevels freshBench freshController freshMachine emptyBay wordsOf pulled raised packed wordOf strapsOf indexOf lineOf argumentOf plain textLine verbLine orderLine handLine insertLine pulls raises only bayOf kindOf given resetLine takeLine writeLine octetOf isOctet digitOf wordIn pairOf ticksOf countOf countFrom verbOf verbs name spelled spelled64 trimmed first rest leading blank
+unfolding loadings heeded obeyed loadedBy isFit pastedOf judged findingOf unread leadingDigits bytesOf lasts firstOut outOf loadOf verdictOn sizedVerdict progressVerdict firstOver stateIn fits secondFits bayIn bayFit levelsIn bayLevels freshBench freshController freshMachine emptyBay wordsOf pulled raised packed wordOf strapsOf indexOf lineOf argumentOf plain textLine verbLine orderLine handLine insertLine pulls raises only bayOf kindOf given resetLine takeLine writeLine span readLine furtherOf followsAt allFurther furtherValues octetOf isOctet digitOf wordIn pairOf ticksOf isSmall smallOf countOf countFrom verbOf verbs name spelled spelled64 trimmed first rest leading blank
 loadings-hold = refl
 
 -- The levels that a RESET gives are those that the dock then has stored: of a bay, all sixteen.

@@ -3,7 +3,7 @@ use Prim.Native.Nat.{ℕ}
 use Prim.Native.String.{String}
 use mathlib.Core.List.{List, [], _∷_, _++_}
 use Rattle.script.specs.Text.{characters}
-use Rattle.script.specs.Lines.{lineOf}
+use Rattle.script.specs.Lines.{argumentOf, lineOf}
 use Rattle.script.specs.declared.Line.{Line}
 use Rattle.script.specs.declared.Line.the-variants.{Blank, Unknown, Misused, Mishandled, Does}
 use Rattle.bench.specs.Orders.{wordsOf, freshBench, heeded}
@@ -16,15 +16,19 @@ pub record Example : Type 0 where
 abbrev from : ℕ → String → List ℕ → Example
 from l t ws = record { levels = l; typed = t; words = ws }
 
-abbrev lineWords : ℕ → Line → List ℕ
-lineWords l Blank = []
-lineWords l Unknown = []
-lineWords l (Misused v) = []
-lineWords l (Mishandled h) = []
-lineWords l (Does o) = wordsOf 0x90 l o
+abbrev lineWords : ℕ → List ℕ → Line → List ℕ
+lineWords l t Blank = []
+lineWords l t Unknown = []
+lineWords l t (Misused v) = []
+lineWords l t (Mishandled h) = []
+lineWords l t (Does o) = wordsOf 0x90 l o t
+
+-- The words of a line, over levels.
+abbrev pub wordsTyped : ℕ → String → List ℕ
+wordsTyped l typed = lineWords l (argumentOf (characters typed)) (lineOf (characters typed))
 
 abbrev pub typedWords : Example → List ℕ
-typedWords e = lineWords (e .levels) (lineOf (characters (e .typed)))
+typedWords e = wordsTyped (e .levels) (e .typed)
 
 -- What a person does at a bay sends one PINS, kind 4, with the levels.
 abbrev hand : ℕ → String → ℕ → Example
@@ -74,6 +78,8 @@ plain =
     ∷ from 0xFF "tick 3" (0xA000 ∷ 0xA000 ∷ 0xA000 ∷ [])
     ∷ from 0xFF "w 14=04" (0x0000 ∷ 0x4090 ∷ 0x4014 ∷ 0x4004 ∷ 0x2000 ∷ [])
     ∷ from 0xFF "r 10" (0x0000 ∷ 0x4090 ∷ 0x4010 ∷ 0x0000 ∷ 0x4091 ∷ 0x6000 ∷ [])
+    ∷ from 0xFF "w 08=34,12,78" (0x0000 ∷ 0x4090 ∷ 0x4008 ∷ 0x4034 ∷ 0x4012 ∷ 0x4078 ∷ 0x2000 ∷ [])
+    ∷ from 0xFF "r FF-01" (0x0000 ∷ 0x4090 ∷ 0x40FF ∷ 0x0000 ∷ 0x4091 ∷ 0x6001 ∷ 0x6001 ∷ 0x6000 ∷ [])
     ∷ from 0xFF "start" (0x0000 ∷ [])
     ∷ from 0xFF "stop" (0x2000 ∷ [])
     ∷ from 0xFF "byte 90" (0x4090 ∷ [])
@@ -85,10 +91,20 @@ plain =
     ∷ from 0xFF "out" []
     ∷ from 0xFF "save" []
     ∷ from 0xFF "load 01" []
+    ∷ from 0xFF "kind 2" []
     ∷ []
 
 unfoldable pub examples : List Example
 examples = falling ++ rising ++ stay ++ plain
+
+-- Document 03's trace as it is typed after `kind 2`, and its words ("Bench examples", at the end).
+unfoldable pub traceLines : List String
+traceLines = "reset C0FF" ∷ "w 0B=77,12,55" ∷ "r 0A-0D" ∷ "take nack" ∷ []
+
+unfoldable pub traceWords : List ℕ
+traceWords =
+    0xC0FF ∷ 0x0000 ∷ 0x4090 ∷ 0x400B ∷ 0x4077 ∷ 0x4012 ∷ 0x4055 ∷ 0x2000
+    ∷ 0x0000 ∷ 0x4090 ∷ 0x400A ∷ 0x0000 ∷ 0x4091 ∷ 0x6001 ∷ 0x6001 ∷ 0x6001 ∷ 0x6000 ∷ 0x6000 ∷ []
 
 -- A line on a fresh bench, one after it, and the words that this sends.
 pub record Loading : Type 0 where
@@ -97,7 +113,7 @@ pub record Loading : Type 0 where
   pub words : List ℕ
 
 abbrev pub loadedWords : Loading → List ℕ
-loadedWords e = lineWords (heeded (characters (e .before)) freshBench .bench .levels) (lineOf (characters (e .typed)))
+loadedWords e = wordsTyped (heeded (characters (e .before)) freshBench .bench .levels) (e .typed)
 
 abbrev loading : String → String → ℕ → Loading
 loading b t w = record { before = b; typed = t; words = w ∷ [] }
@@ -106,10 +122,10 @@ loading b t w = record { before = b; typed = t; words = w ∷ [] }
 -- version.
 unfoldable pub loadings : List Loading
 loadings =
-    loading "load 0301000001000101000101000101010100010101010101010100000000000000000000000A0000000202000000000000000000031400" "press 0" 0x809F
-    ∷ loading "load 0301000001000101000101000101010100010101010101010100000000000000000000000a0000000202000000000000000000031400 # both cases" "press 0" 0x809F
-    ∷ loading "load 0301000001000101000101000101010100010101010101010100000000000000000000000A0000000202000000000000000000031400" "remove 0" 0x80FF
-    ∷ loading "load 030100000100010100010100010101010001010101010101010000000000000000000000C80000000202000000000000000000031400" "press 0" 0x80DF
-    ∷ loading "load 0301000001000101000101000101010100010101010101010100000000000000000000000A00000002020000000000000000000314" "press 0" 0x80DF
-    ∷ loading "load 0201000001000101000101000101010100010101010101010100000000000000000000000A0000000202000000000000000000031400" "press 0" 0x80DF
+    loading "load 0401000000000000000000000001000101000101000101010100010101010101010100000000000000000000000A00000000000000000000020200000000000000000000000000031400" "press 0" 0x809F
+    ∷ loading "load 0401000000000000000000000001000101000101000101010100010101010101010100000000000000000000000a00000000000000000000020200000000000000000000000000031400 # both cases" "press 0" 0x809F
+    ∷ loading "load 0401000000000000000000000001000101000101000101010100010101010101010100000000000000000000000A00000000000000000000020200000000000000000000000000031400" "remove 0" 0x80FF
+    ∷ loading "load 040100000000000000000000000100010100010100010101010001010101010101010000000000000000000000C800000000000000000000020200000000000000000000000000031400" "press 0" 0x80DF
+    ∷ loading "load 0401000000000000000000000001000101000101000101010100010101010101010100000000000000000000000A000000000000000000000202000000000000000000000000000314" "press 0" 0x80DF
+    ∷ loading "load 0301000000000000000000000001000101000101000101010100010101010101010100000000000000000000000A00000000000000000000020200000000000000000000000000031400" "press 0" 0x80DF
     ∷ []

@@ -1,18 +1,20 @@
 -- What a line does to the dock on the bench: the event words that it sends, one after the other.
 use Prim.Native.Nat.{ℕ, _+_, _*_, _/_}
 use mathlib.Core.Bool.{Bool, true, false, cond}
-use mathlib.Core.List.{List, [], _∷_}
+use mathlib.Core.List.{List, [], _∷_, _++_, map}
 use lib.ListN.{replicate}
 use Rattle.event.specs.Words.{packed, packWord, unpacked}
 use Rattle.event.specs.declared.Event.{Event}
 use Rattle.event.specs.declared.Event.the-variants.{Start, Stop, Byte, Take, Pins, Tick}
 use Rattle.dock.specs.Record.{freshController}
 use Rattle.dock.specs.Step.{stepOf}
+use Rattle.dock.specs.Name.{nameOf}
 use Rattle.paste.specs.Findings.{isFit, pastedOf}
 use Rattle.paste.specs.declared.Pasted.{Pasted}
+use Rattle.script.specs.Arguments.{furtherValues}
 use Rattle.script.specs.Lines.{argumentOf, lineOf}
 use Rattle.script.specs.declared.Order.{Order}
-use Rattle.script.specs.declared.Order.the-variants.{Event as One, Pull, Raise, Ticks, Word, Write, Read, Address, Outputs, Registers, Help, Save, Load}
+use Rattle.script.specs.declared.Order.the-variants.{Event as One, Pull, Raise, Ticks, Word, Write, Read, Address, Outputs, Registers, Help, Save, Load, Name}
 use Rattle.script.specs.declared.Line.{Line}
 use Rattle.script.specs.declared.Line.the-variants.{Blank, Unknown, Misused, Mishandled, Does}
 use Rattle.bench.specs.Levels.{AT-REST, pulled, raised, levelsAfter, levelsIn}
@@ -23,33 +25,39 @@ use Rattle.bench.specs.declared.Heeded.{Heeded}
 abbrev pub wordFor : Event → ℕ
 wordFor e = packWord (packed e)
 
--- A whole write, to an address byte.
-abbrev pub writeWords : ℕ → ℕ → ℕ → List ℕ
-writeWords a r v = wordFor Start ∷ wordFor (Byte a) ∷ wordFor (Byte r) ∷ wordFor (Byte v) ∷ wordFor Stop ∷ []
+-- A whole write of values, to an address byte.
+abbrev pub byteWord : ℕ → ℕ
+byteWord b = wordFor (Byte b)
 
--- A whole read: the address byte for reading has its lowest bit set, and the host does not ACK the one byte it takes.
+abbrev pub writeWords : ℕ → ℕ → List ℕ → List ℕ
+writeWords a r vs = wordFor Start ∷ byteWord a ∷ byteWord r ∷ (map byteWord vs ++ (wordFor Stop ∷ []))
+
+-- A whole read: the address byte for reading has its lowest bit set, and the host ACKs each byte that it takes but the last.
 abbrev pub readByte : ℕ → ℕ
 readByte a = a / 2 * 2 + 1
 
-abbrev pub readWords : ℕ → ℕ → List ℕ
-readWords a r =
-    wordFor Start ∷ wordFor (Byte a) ∷ wordFor (Byte r) ∷ wordFor Start ∷ wordFor (Byte (readByte a)) ∷ wordFor (Take false) ∷ []
+abbrev pub takeWords : ℕ → List ℕ
+takeWords more = replicate more (wordFor (Take true)) ++ (wordFor (Take false) ∷ [])
 
--- The words of an order, to an address byte and over the levels as they are.
-unfoldable pub wordsOf : ℕ → ℕ → Order → List ℕ
-wordsOf a l (One e) = wordFor e ∷ []
-wordsOf a l (Pull inputs) = wordFor (Pins (pulled l inputs)) ∷ []
-wordsOf a l (Raise inputs) = wordFor (Pins (raised l inputs)) ∷ []
-wordsOf a l (Ticks n) = replicate n (wordFor Tick)
-wordsOf a l (Word w) = w ∷ []
-wordsOf a l (Write r v) = writeWords a r v
-wordsOf a l (Read r) = readWords a r
-wordsOf a l (Address b) = []
-wordsOf a l Outputs = []
-wordsOf a l Registers = []
-wordsOf a l Help = []
-wordsOf a l Save = []
-wordsOf a l Load = []
+abbrev pub readWords : ℕ → ℕ → ℕ → List ℕ
+readWords a r more = wordFor Start ∷ byteWord a ∷ byteWord r ∷ wordFor Start ∷ byteWord (readByte a) ∷ takeWords more
+
+-- The words of an order and the text beside it, to an address byte and over the levels as they are.
+unfoldable pub wordsOf : ℕ → ℕ → Order → List ℕ → List ℕ
+wordsOf a l (One e) t = wordFor e ∷ []
+wordsOf a l (Pull inputs) t = wordFor (Pins (pulled l inputs)) ∷ []
+wordsOf a l (Raise inputs) t = wordFor (Pins (raised l inputs)) ∷ []
+wordsOf a l (Ticks n) t = replicate n (wordFor Tick)
+wordsOf a l (Word w) t = w ∷ []
+wordsOf a l (Write r v more) t = writeWords a r (v ∷ furtherValues t more)
+wordsOf a l (Read r more) t = readWords a r more
+wordsOf a l (Address b) t = []
+wordsOf a l Outputs t = []
+wordsOf a l Registers t = []
+wordsOf a l Help t = []
+wordsOf a l Save t = []
+wordsOf a l Load t = []
+wordsOf a l (Name n) t = []
 
 -- A bench that nothing has been done to.
 unfoldable pub freshBench : Bench
@@ -69,8 +77,12 @@ unfoldable pub afterWords : Bench → List ℕ → Bench
 afterWords b [] = b
 afterWords b (w ∷ ws) = afterWords (sentOf b w .bench) ws
 
-abbrev pub sending : Order → Bench → Bench
-sending o b = afterWords b (wordsOf (b .address) (b .levels) o)
+abbrev pub sending : Order → List ℕ → Bench → Bench
+sending o t b = afterWords b (wordsOf (b .address) (b .levels) o t)
+
+-- The call that names a kind is no word: what the host speaks to and the levels stay.
+unfoldable pub namedAs : ℕ → Bench → Bench
+namedAs n b = record { controller = nameOf (b .controller) n .controller; address = b .address; levels = b .levels }
 
 -- The image of a fit state: the dock goes on from it, with the levels that it has stored; what the host speaks to stays. Any other
 -- text changes nothing.
@@ -78,21 +90,22 @@ unfoldable pub loadedBy : Pasted → Bench → Bench
 loadedBy p b =
     cond (isFit (p .finding)) (record { controller = p .controller; address = b .address; levels = levelsIn (p .controller .machine) }) b
 
--- An order sends its words; `at` changes the address byte, and `load` the dock, by the text beside it.
+-- An order sends its words; `at` changes the address byte, `load` the dock, by the text beside it, and `kind` its named kind.
 unfoldable pub obeyed : Order → List ℕ → Bench → Bench
-obeyed (One e) t b = sending (One e) b
-obeyed (Pull inputs) t b = sending (Pull inputs) b
-obeyed (Raise inputs) t b = sending (Raise inputs) b
-obeyed (Ticks n) t b = sending (Ticks n) b
-obeyed (Word w) t b = sending (Word w) b
-obeyed (Write r v) t b = sending (Write r v) b
-obeyed (Read r) t b = sending (Read r) b
+obeyed (One e) t b = sending (One e) t b
+obeyed (Pull inputs) t b = sending (Pull inputs) t b
+obeyed (Raise inputs) t b = sending (Raise inputs) t b
+obeyed (Ticks n) t b = sending (Ticks n) t b
+obeyed (Word w) t b = sending (Word w) t b
+obeyed (Write r v more) t b = sending (Write r v more) t b
+obeyed (Read r more) t b = sending (Read r more) t b
 obeyed (Address a) t b = record { controller = b .controller; address = a; levels = b .levels }
 obeyed Outputs t b = b
 obeyed Registers t b = b
 obeyed Help t b = b
 obeyed Save t b = b
 obeyed Load t b = loadedBy (pastedOf t) b
+obeyed (Name n) t b = namedAs n b
 
 -- A line that isn't understood changes nothing.
 abbrev pub does : Line → List ℕ → Bench → Bench

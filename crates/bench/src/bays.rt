@@ -7,26 +7,57 @@ use crate::say::say_if;
 use bay::Bay;
 use bits::has;
 use dock::Controller;
-use machine::Machine;
+use kind::Kind;
 use machine::Shared;
+use machine::first_kind;
+use machine::second_kind;
 
 // A register's reading, which is a byte.
 pub(crate) fn read(controller: Controller, register: u8) -> u8 {
     (controller.reading(register).value() % 256) as u8
 }
 
-// What is to be seen of a controller now.
-pub(crate) fn look(controller: Controller) -> Seen {
+pub(crate) fn kind_of(controller: Controller) -> Kind {
+    let machine = controller.machine;
+    let kind = machine.kind;
+    kind
+}
+
+// What is to be seen of a controller now, with these addresses of DBCCR and of each bay's BSTR.
+fn look_at(controller: Controller, dbccr: u8, bstr_0: u8, bstr_1: u8) -> Seen {
     let machine = controller.machine;
     let bays = machine.bays;
     Seen {
         started: machine.started,
-        one_bay: read(controller, Machine::DBCCR) % 4 == Shared::ONE_BAY,
-        bstr_0: read(controller, Machine::BSTR_0),
-        bstr_1: read(controller, Machine::BSTR_1),
+        second: kind_of(controller).is_second(),
+        one_bay: read(controller, dbccr) % 4 == Shared::ONE_BAY,
+        bstr_0: read(controller, bstr_0),
+        bstr_1: read(controller, bstr_1),
         wait_0: bays[0].wait,
         wait_1: bays[1].wait,
         outputs: controller.outputs().value(),
+    }
+}
+
+// What is to be seen of it, whichever kind is in force.
+pub(crate) fn look(controller: Controller) -> Seen {
+    match kind_of(controller) {
+        Kind::First => {
+            look_at(
+                controller,
+                first_kind::DBCCR,
+                first_kind::BSTR_0,
+                first_kind::BSTR_1,
+            )
+        }
+        Kind::Second => {
+            look_at(
+                controller,
+                second_kind::DBCCR,
+                second_kind::BSTR_0,
+                second_kind::BSTR_1,
+            )
+        }
     }
 }
 
@@ -52,7 +83,7 @@ pub(crate) fn say_bay(bstr: u8) {
     say_if(has(bstr, 128), b", nSL low");
 }
 
-fn say_wait(wait: u8) {
+fn say_wait(wait: u16) {
     if wait != 0 {
         say(b", seats for ");
         say_count(wait as u64);
@@ -61,7 +92,7 @@ fn say_wait(wait: u8) {
 }
 
 // A bay's line: its BSTR and its wait, then its power, lock pin, green and yellow, bit 3 to 0.
-fn tell_bay(name: &[u8], bstr: u8, wait: u8, pins: u8) {
+fn tell_bay(name: &[u8], bstr: u8, wait: u16, pins: u8) {
     say(name);
     say_bay(bstr);
     say_wait(wait);
@@ -110,13 +141,14 @@ pub(crate) fn tell_all(seen: Seen) {
         tell_unstarted();
         return;
     }
+    say_if(seen.second, b"  the second kind is in force\n");
     tell_bay_0(seen);
     tell_bay_1(seen);
     tell_interrupt(seen);
 }
 
 // A wait begins or is over; that it falls tick by tick is no news.
-fn wait_differs(before: u8, after: u8) -> bool {
+fn wait_differs(before: u16, after: u16) -> bool {
     (before == 0) != (after == 0)
 }
 

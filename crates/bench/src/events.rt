@@ -1,12 +1,15 @@
 // Events and what the dock answers, in words.
 use crate::say::say;
 use crate::say::say_byte;
+use crate::say::say_count;
 use crate::say::say_either;
 use crate::say::say_if;
 use bus::Reply;
 use dock::Answer;
+use dock::Naming;
 use event::Event;
 use event::Unpacked;
+use kind::Kind;
 
 fn say_data(name: &[u8], data: u8) {
     say(name);
@@ -75,4 +78,25 @@ fn tell_reply(reply: Reply) {
         }
         Reply::NotDriven => say(b": not driven"),
     }
+}
+
+// What the call that names a kind by its number came to.
+pub(crate) fn tell_naming(number: u8, naming: Naming) {
+    match naming {
+        Naming::Stored => {
+            say_either(
+                number == Kind::First.number(),
+                b"  the first kind is named",
+                b"  the second kind is named",
+            );
+            say(b": it holds from the next RESET on");
+        }
+        Naming::Unfit => say(b"  refused with 1, the state isn't fit"),
+        Naming::NoSuchKind => {
+            say(b"  refused with 14, ");
+            say_count(number as u64);
+            say(b" is neither kind");
+        }
+    }
+    say(b"\n");
 }

@@ -34,7 +34,10 @@ fn say_use(verb: Verb) {
         Verb::Regs => say(b"regs            tells every register\n"),
         Verb::Help => say(b"help            tells these lines\n"),
         Verb::Save => say(b"save            tells the dock's state as an image, in hex\n"),
-        Verb::Load => say(b"load 0301..     goes on from an image, as `save` tells it\n"),
+        Verb::Load => say(b"load 0401..     goes on from an image, as `save` tells it\n"),
+        Verb::Kind => say(
+            b"kind 2          names the second kind of controller, or with 1 the first, from the next RESET on\n",
+        ),
     }
 }
 
@@ -59,7 +62,7 @@ fn say_hand_use(hand: Hand) {
 
 pub(crate) fn tell_help() {
     say(
-        b"  One order to a line; what follows a # is a comment. Numbers are hex, but for the ticks.\n",
+        b"  One order to a line; what follows a # is a comment. Numbers are hex, but for the ticks and the kind.\n",
     );
     say_help(Verb::Reset);
     say_hand_help(Hand::Insert);
@@ -78,17 +81,25 @@ pub(crate) fn tell_help() {
     say_help(Verb::Word);
     say_help(Verb::W);
     say_help(Verb::R);
+    say_several();
     say_help(Verb::At);
     say_help(Verb::Out);
     say_help(Verb::Regs);
     say_help(Verb::Save);
     say_help(Verb::Load);
+    say_help(Verb::Kind);
     say_help(Verb::Help);
 }
 
 fn say_help(verb: Verb) {
     say(b"  ");
     say_use(verb);
+}
+
+// How `w` and `r` are written for more than one byte.
+fn say_several() {
+    say(b"  w 08=34,12      a write of several bytes, one after the other\n");
+    say(b"  r 08-0B         a read of several registers, from the first to the last\n");
 }
 
 fn say_hand_help(hand: Hand) {

@@ -13,6 +13,11 @@ use bay::Bay;
 use dock::Controller;
 use image::Verdict;
 use paste::Finding;
+use paste::Out;
+
+const FORM_FACTOR_0: usize = image::FORM_FACTORS;
+
+const FORM_FACTOR_1: usize = image::FORM_FACTORS + 1;
 
 // The debounce counts among a bay's numbers.
 const N1394: usize = image::COUNTS + Bay::N1394;
@@ -68,7 +73,7 @@ fn tell_refused(finding: Finding, bytes: [u8; image::BYTES]) {
             say_count(image::BYTES as u64);
         }
         Finding::NoImage(verdict) => say_verdict(verdict, bytes),
-        Finding::Unfit(place) => say_unfit(place, bytes),
+        Finding::Unfit(out) => say_unfit(out),
     }
     say(b"\n");
 }
@@ -112,7 +117,7 @@ fn say_verdict(verdict: Verdict, bytes: [u8; image::BYTES]) {
             say_place(image::PROGRESS);
             say(b", the command in progress,");
             say_value(bytes, image::PROGRESS);
-            say(b": it is 0 to 6");
+            say(b": it is 0 to 8");
         }
         Verdict::NotUsed(at) => {
             say_place(at);
@@ -125,16 +130,15 @@ fn say_verdict(verdict: Verdict, bytes: [u8; image::BYTES]) {
     }
 }
 
-// A number out of its range, by its place among the numbers.
-fn say_unfit(place: usize, bytes: [u8; image::BYTES]) {
-    if place < image::PROGRESS - image::STRAPS {
-        let at = image::STRAPS + place;
-        say_place(at);
-        say_name(at);
-        say_value(bytes, at);
-        say(b": it is 0 to ");
-        say_count(paste::last(place) as u64);
-    }
+// A number out of its range.
+fn say_unfit(out: Out) {
+    let at = out.at;
+    say_place(at);
+    say_name(at);
+    say(b" is ");
+    say_count(out.value as u64);
+    say(b": it is 0 to ");
+    say_count(out.last as u64);
 }
 
 fn say_name(at: usize) {
@@ -143,6 +147,8 @@ fn say_name(at: usize) {
         image::BAY_COUNT => say(b", the bay count,"),
         image::LOCK_TIME => say(b", the lock time,"),
         image::PHASE => say(b", the phase,"),
+        FORM_FACTOR_0 => say(b", the form factor of bay 0,"),
+        FORM_FACTOR_1 => say(b", the form factor of bay 1,"),
         _ => say_bay_name(at),
     }
 }
@@ -168,6 +174,7 @@ fn say_kind(number: usize) {
         image::STATE => say(b", the state"),
         image::REQUEST => say(b", the stored request"),
         image::PULSE => say(b", the pulse"),
+        image::WAIT => say(b", the wait"),
         _ => {}
     }
 }

@@ -5,7 +5,7 @@ use crate::Typed;
 use libc::STDIN_FILENO;
 
 // Puts a character at a place of the buffer and answers the next place, the same one where the buffer is full.
-fn put(text: &mut [u8], at: usize, c: u8) -> usize
+pub(crate) fn put(text: &mut [u8], at: usize, c: u8) -> usize
     requires { ⌜ at ≤ length (now text) ⌝ }
     ensures { λ r. ⌜ r ≤ length (now (text .exit)) ⌝ }
 {

@@ -2,6 +2,7 @@
 // describes the lines.
 mod bays;
 mod events;
+mod first_kind;
 mod help;
 mod images;
 mod input;
@@ -9,6 +10,9 @@ mod levels;
 mod orders;
 mod registers;
 mod say;
+mod second_kind;
+mod sending;
+mod transfers;
 
 ghost use mathlib.Core.Path.{_≡_};
 ghost use Rattle.bench.specs.Orders.{heeded};
@@ -41,17 +45,25 @@ struct Sent {
     answer: Answer,
 }
 
+// After the TAKEs of a read: the bench, and how many bytes were driven.
+struct Took {
+    bench: Bench,
+    count: usize,
+}
+
 // What can be seen of a dock.
 struct Seen {
     // A RESET has come.
     started: bool,
+    // The second kind is in force.
+    second: bool,
     // Bay 1 is closed.
     one_bay: bool,
     bstr_0: u8,
     bstr_1: u8,
     // For how many ticks more each bay's device seats.
-    wait_0: u8,
-    wait_1: u8,
+    wait_0: u16,
+    wait_1: u16,
     outputs: u16,
 }
 

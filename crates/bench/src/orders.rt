@@ -2,10 +2,9 @@
 ghost use mathlib.Core.Path.{_≡_};
 ghost use lib.ListN.{replicate};
 ghost use Rattle.event.specs.declared.Event.the-variants.{Tick};
-ghost use Rattle.bench.specs.Orders.{wordFor, writeWords, readWords, sentOf, afterWords, freshBench, obeyed};
+ghost use Rattle.bench.specs.Orders.{wordFor, sentOf, afterWords, namedAs, freshBench, obeyed};
 use crate::Bench;
 use crate::Seen;
-use crate::Sent;
 use crate::bays::differs;
 use crate::bays::look;
 use crate::bays::tell_all;
@@ -13,71 +12,27 @@ use crate::bays::tell_changes;
 use crate::events::is_reset;
 use crate::events::tell_address;
 use crate::events::tell_answer;
-use crate::events::tell_word;
+use crate::events::tell_naming;
 use crate::help::tell_help;
 use crate::images::load;
 use crate::images::tell_image;
 use crate::levels::AT_REST;
-use crate::levels::levels_after;
 use crate::levels::pulled;
 use crate::levels::raised;
 use crate::registers::tell_registers;
-use crate::registers::tell_taken;
 use crate::say::say;
 use crate::say::say_count;
 use crate::say::say_if;
+use crate::sending::send;
+use crate::sending::step;
+use crate::sending::tell_end;
+use crate::sending::word_for;
+use crate::transfers::read;
+use crate::transfers::write;
 use dock::Answer;
 use dock::Controller;
 use event::Event;
 use script::Order;
-
-fn word_for(event: Event) -> u16
-    ensures { λ r. ⌜ r ≡ wordFor event ⌝ }
-{
-    event::pack(event).word()
-}
-
-// One word, by the single call.
-fn step(bench: Bench, word: u16) -> Sent
-    ensures { λ r. ⌜ r ≡ sentOf bench word ⌝ }
-{
-    let controller = bench.controller;
-    let stepped = controller.step(word);
-    let next = stepped.controller;
-    let answer = stepped.answer;
-    let levels = levels_after(answer, word, bench.levels);
-    Sent {
-        bench: Bench {
-            controller: next,
-            address: bench.address,
-            levels,
-        },
-        answer,
-    }
-}
-
-// One word, with its event and the answer told.
-fn send(bench: Bench, word: u16) -> Sent
-    ensures { λ r. ⌜ r ≡ sentOf bench word ⌝ }
-{
-    tell_word(word);
-    let sent = step(bench, word);
-    let answer = sent.answer;
-    tell_answer(answer);
-    sent
-}
-
-fn sent(bench: Bench, event: Event) -> Bench
-    ensures { λ r. ⌜ r ≡ sentOf bench (wordFor event) .bench ⌝ }
-{
-    send(bench, word_for(event)).bench
-}
-
-// What comes after the events of a line: their end, and what they changed.
-fn tell_end(before: Seen, after: Bench) {
-    say(b"\n");
-    tell_changes(before, look(after.controller));
-}
 
 // One word. After a RESET everything is told, since everything is new.
 fn one(bench: Bench, word: u16) -> Bench
@@ -94,36 +49,20 @@ fn one(bench: Bench, word: u16) -> Bench
     next
 }
 
-// A whole write.
-fn write(bench: Bench, register: u8, value: u8) -> Bench
-    ensures { λ r. ⌜ r ≡ afterWords bench (writeWords (bench .address) register value) ⌝ }
+// The call that names a kind: it is no event, and changes nothing that is told besides.
+fn name(bench: Bench, number: u8) -> Bench
+    ensures { λ r. ⌜ r ≡ namedAs number bench ⌝ }
 {
-    let before = look(bench.controller);
-    let opened = sent(bench, Event::Start);
-    let addressed = sent(opened, Event::Byte(bench.address));
-    let chosen = sent(addressed, Event::Byte(register));
-    let given = sent(chosen, Event::Byte(value));
-    let next = sent(given, Event::Stop);
-    tell_end(before, next);
-    next
-}
-
-// A whole read, and what the byte that was driven says.
-fn read(bench: Bench, register: u8) -> Bench
-    ensures { λ r. ⌜ r ≡ afterWords bench (readWords (bench .address) register) ⌝ }
-{
-    let before = look(bench.controller);
-    let opened = sent(bench, Event::Start);
-    let addressed = sent(opened, Event::Byte(bench.address));
-    let chosen = sent(addressed, Event::Byte(register));
-    let again = sent(chosen, Event::Start);
-    let decided = sent(again, Event::Byte(bench.address / 2 * 2 + 1));
-    let taken = send(decided, word_for(Event::Take(false)));
-    let answer = taken.answer;
-    let next = taken.bench;
-    tell_end(before, next);
-    tell_taken(register, answer);
-    next
+    let controller = bench.controller;
+    let renamed = controller.name(number);
+    let next = renamed.controller;
+    let naming = renamed.naming;
+    tell_naming(number, naming);
+    Bench {
+        controller: next,
+        address: bench.address,
+        levels: bench.levels,
+    }
 }
 
 // What the i-th TICK of a line changed, or why it was refused; answers whether there was anything to tell.
@@ -190,8 +129,12 @@ impl Bench {
             Order::Raise(inputs) => one(self, word_for(Event::Pins(raised(levels, inputs)))),
             Order::Ticks(count) => ticks(self, count),
             Order::Word(word) => one(self, word),
-            Order::Write { register, value } => write(self, register, value),
-            Order::Read(register) => read(self, register),
+            Order::Write {
+                register,
+                value,
+                more,
+            } => write(self, register, value, more, text),
+            Order::Read { register, more } => read(self, register, more),
             Order::Address(address) => {
                 tell_address(address);
                 Bench {
@@ -217,6 +160,7 @@ impl Bench {
                 self
             }
             Order::Load => load(self, text),
+            Order::Name(number) => name(self, number),
         }
     }
 }

@@ -1,22 +1,21 @@
-// The registers by their names, and what a reading says.
+// The registers by what they say, and what was read of them. Which kind has which is in first_kind.rt and second_kind.rt.
+use crate::bays::kind_of;
 use crate::bays::read;
 use crate::bays::say_bay;
 use crate::bays::say_state;
 use crate::bays::tell_unstarted;
+use crate::first_kind;
 use crate::say::say;
 use crate::say::say_byte;
 use crate::say::say_count;
-use crate::say::say_either;
 use crate::say::say_if;
+use crate::second_kind;
 use bits::has;
-use bus::Reply;
-use dock::Answer;
 use dock::Controller;
-use machine::Machine;
+use kind::Kind;
 use machine::Shared;
-use machine::pulse_ticks;
 
-fn say_dbccr(dbccr: u8) {
+pub(crate) fn say_dbccr(dbccr: u8) {
     let count = dbccr % 4;
     say(b": ");
     say_if(has(dbccr, 16), b"SECLOCK, ");
@@ -25,7 +24,7 @@ fn say_dbccr(dbccr: u8) {
     say_if(count == Shared::ONE_BAY, b", bay 1 closed");
 }
 
-fn say_bstr(bstr: u8) {
+pub(crate) fn say_bstr(bstr: u8) {
     say(b": ");
     say_bay(bstr);
 }
@@ -40,7 +39,7 @@ fn say_request(request: u8) {
     }
 }
 
-fn say_bcer(bcer: u8) {
+pub(crate) fn say_bcer(bcer: u8) {
     say(b": ");
     say_if(has(bcer, 128), b"LOCK_CTL, ");
     say_request(bcer / 16 % 8);
@@ -51,76 +50,52 @@ fn say_bcer(bcer: u8) {
 }
 
 // How long the pulse is that unlocks.
-fn say_letr(letr: u8) {
-    say(b": unlock pulse of ");
-    say_count(pulse_ticks(letr) as u64);
+pub(crate) fn say_pulse(ticks: u16) {
+    say(b"unlock pulse of ");
+    say_count(ticks as u64);
     say(b" ticks");
 }
 
-// How long a device seats before its bay is Inserted.
-fn say_wait_time(wait: u8) {
-    if wait == 0 {
-        say(b": Inserted at once");
-    } else {
-        say(b": Inserted after ");
-        say_count(wait as u64);
-        say_either(wait == 1, b" tick", b" ticks");
+fn say_name(kind: Kind, register: u8) {
+    match kind {
+        Kind::First => first_kind::say_name(register),
+        Kind::Second => second_kind::say_name(register),
     }
 }
 
-fn say_name(register: u8) {
-    match register {
-        Machine::VENDOR_LOW => say(b" vendor, low byte,"),
-        Machine::VENDOR_HIGH => say(b" vendor, high byte,"),
-        Machine::REVISION => say(b" revision"),
-        Machine::DBCCR => say(b" DBCCR"),
-        Machine::BSTR_0 => say(b" BSTR of bay 0"),
-        Machine::BCER_0 => say(b" BCER of bay 0"),
-        Machine::BSTR_1 => say(b" BSTR of bay 1"),
-        Machine::BCER_1 => say(b" BCER of bay 1"),
-        Machine::LETR => say(b" LETR"),
-        Machine::WAIT => say(b" insertion wait"),
-        _ => {}
-    }
-}
-
-fn say_meaning(register: u8, value: u8) {
-    match register {
-        Machine::DBCCR => say_dbccr(value),
-        Machine::BSTR_0 | Machine::BSTR_1 => say_bstr(value),
-        Machine::BCER_0 | Machine::BCER_1 => say_bcer(value),
-        Machine::LETR => say_letr(value),
-        Machine::WAIT => say_wait_time(value),
-        _ => {}
+fn say_meaning(kind: Kind, register: u8, value: u8) {
+    match kind {
+        Kind::First => first_kind::say_meaning(register, value),
+        Kind::Second => second_kind::say_meaning(register, value),
     }
 }
 
 // A register's line: its address, its name, its value and what that says.
-fn tell_register(register: u8, value: u8) {
+fn tell_register(kind: Kind, register: u8, value: u8) {
     say(b"  ");
     say_byte(register as u16);
     say(b"h");
-    say_name(register);
+    say_name(kind, register);
     say(b" reads ");
     say_byte(value as u16);
     say(b"h");
-    say_meaning(register, value);
+    say_meaning(kind, register, value);
     say(b"\n");
 }
 
-// What the byte that ended a read says, where one was driven.
-pub(crate) fn tell_taken(register: u8, answer: Answer) {
-    let Answer::Done(reply, _) = answer else {
-        return;
-    };
-    if let Reply::Driven(value) = reply {
-        tell_register(register, value);
+// What the bytes say that a read gave, from a register on; FFh is followed by 00h.
+pub(crate) fn tell_taken(kind: Kind, register: u8, given: &[u8]) {
+    let mut i = 0;
+    while i < given.len() {
+        let at = (register as usize + i % 256) % 256;
+        tell_register(kind, at as u8, given[i]);
+        i += 1;
     }
 }
 
 // A register as it reads now.
-fn tell_now(controller: Controller, register: u8) {
-    tell_register(register, read(controller, register));
+pub(crate) fn tell_now(controller: Controller, register: u8) {
+    tell_register(kind_of(controller), register, read(controller, register));
 }
 
 // Every register that a dock has.
@@ -129,14 +104,8 @@ pub(crate) fn tell_registers(controller: Controller) {
         tell_unstarted();
         return;
     }
-    tell_now(controller, Machine::VENDOR_LOW);
-    tell_now(controller, Machine::VENDOR_HIGH);
-    tell_now(controller, Machine::REVISION);
-    tell_now(controller, Machine::DBCCR);
-    tell_now(controller, Machine::BSTR_0);
-    tell_now(controller, Machine::BCER_0);
-    tell_now(controller, Machine::BSTR_1);
-    tell_now(controller, Machine::BCER_1);
-    tell_now(controller, Machine::LETR);
-    tell_now(controller, Machine::WAIT);
+    match kind_of(controller) {
+        Kind::First => first_kind::tell_registers(controller),
+        Kind::Second => second_kind::tell_registers(controller),
+    }
 }

@@ -1,12 +1,14 @@
-// A bus command in progress (document 01, "Bus commands"): what a START or a BYTE makes of it, and the replies.
-// It knows addresses and bytes, and nothing of what a register holds.
+// A bus command in progress (document 01, "Bus commands"; document 03, "Bus transfers"): what a START or a BYTE makes of
+// it in each kind of controller, and the replies. It knows addresses and bytes, and nothing of what a register holds.
 ghost use mathlib.Core.Path.{_≡_};
-ghost use Rattle.bus.specs.Progress.{ownWrite, ownRead, started, heard};
+ghost use Rattle.bus.specs.Progress.{ownWrite, ownRead, nextRegister, holding, knownTo, started, heard};
 ghost use Rattle.bus.specs.Reply.{replyNumber, replyByte};
 use bits::straps;
+use kind::Kind;
 
-// How far the open command has come. A write is START, own write byte, register byte, data byte, STOP; a read is
-// START, own write byte, register byte, START, own read byte, TAKE.
+// How far the open command has come. In the first kind a write is START, own write byte, register byte, data byte, STOP;
+// a read is START, own write byte, register byte, START, own read byte, TAKE. In the second a write has any number of
+// data bytes, each a whole write at once, and a read any number of ACKed TAKEs before its NACKed one.
 pub enum Progress {
     // No command is open.
     Idle,
@@ -16,18 +18,25 @@ pub enum Progress {
     Addressed,
     // The register byte has come, which it holds.
     Register(u8),
-    // The data byte has come: a STOP decides the write.
+    // First kind, the data byte has come: a STOP decides the write.
     Data { register: u8, value: u8 },
     // The second START has come: the own read byte decides the read.
     Again(u8),
-    // The own read byte has come: what the register read then, for the TAKE.
+    // First kind, the own read byte has come: what the register read then, for the TAKE.
     Reading(u8),
+    // Second kind, a data byte has been written: the number that the next one goes to.
+    Writing(u8),
+    // Second kind, the own read byte, or an ACKed TAKE, has come: the number that was read, and the byte held for the
+    // next TAKE.
+    Sending { register: u8, value: u8 },
 }
 
 // What a BYTE makes of a command.
 pub enum Heard {
     // It is the next one of a form: the command goes on.
     On(Progress),
+    // Second kind, it is a data byte: a whole write at once.
+    Write { register: u8, value: u8 },
     // It is the own read byte, which decides a read of this register.
     Read(u8),
     // It is not the next one: the command ends.
@@ -59,39 +68,74 @@ pub fn own_read(straps: u8) -> u8
     own_write(straps) + 1
 }
 
+// The number rises within a transfer of the second kind: FFh to 00h.
+pub fn next_register(register: u8) -> u8
+    ensures { λ r. ⌜ r ≡ nextRegister register ⌝ }
+{
+    if register == 0xFF { 0x00 } else { register + 1 }
+}
+
 impl Progress {
-    // A START opens a command when none is open; after a register byte it goes on to a read.
-    pub fn start(self) -> Progress
-        ensures { λ r. ⌜ r ≡ started self ⌝ }
+    // What a read holds for its TAKE.
+    pub fn holding(kind: Kind, register: u8, value: u8) -> Progress
+        ensures { λ r. ⌜ r ≡ holding kind register value ⌝ }
     {
-        if let Progress::Idle = self {
+        match kind {
+            Kind::First => Progress::Reading(value),
+            Kind::Second => Progress::Sending { register, value },
+        }
+    }
+
+    // A progress of the other kind counts as none.
+    pub fn known(self, kind: Kind) -> Progress
+        ensures { λ r. ⌜ r ≡ knownTo kind self ⌝ }
+    {
+        match kind {
+            Kind::First => match self {
+                Progress::Writing(_) | Progress::Sending { .. } => Progress::Idle,
+                _ => self,
+            },
+            Kind::Second => match self {
+                Progress::Data { .. } | Progress::Reading(_) => Progress::Idle,
+                _ => self,
+            },
+        }
+    }
+
+    // A START opens a command when none is open; after a register byte it goes on to a read.
+    pub fn start(self, kind: Kind) -> Progress
+        ensures { λ r. ⌜ r ≡ started kind self ⌝ }
+    {
+        let progress = self.known(kind);
+        if let Progress::Idle = progress {
             return Progress::Opened;
         }
-        let Progress::Register(register) = self else {
+        let Progress::Register(register) = progress else {
             return Progress::Idle;
         };
         Progress::Again(register)
     }
 
-    // A BYTE, to the controller with these straps.
-    pub fn byte(self, straps: u8, byte: u8) -> Heard
-        ensures { λ r. ⌜ r ≡ heard straps byte self ⌝ }
+    // A BYTE, to the controller of this kind with these straps.
+    pub fn byte(self, kind: Kind, straps: u8, value: u8) -> Heard
+        ensures { λ r. ⌜ r ≡ heard kind straps value self ⌝ }
     {
-        match self {
+        match self.known(kind) {
             Progress::Opened => {
-                if byte == own_write(straps) {
+                if value == own_write(straps) {
                     Heard::On(Progress::Addressed)
                 } else {
                     Heard::End
                 }
             }
-            Progress::Addressed => Heard::On(Progress::Register(byte)),
-            Progress::Register(register) => Heard::On(Progress::Data {
-                register,
-                value: byte,
-            }),
+            Progress::Addressed => Heard::On(Progress::Register(value)),
+            Progress::Register(register) => match kind {
+                Kind::First => Heard::On(Progress::Data { register, value }),
+                Kind::Second => Heard::Write { register, value },
+            },
+            Progress::Writing(register) => Heard::Write { register, value },
             Progress::Again(register) => {
-                if byte == own_read(straps) {
+                if value == own_read(straps) {
                     Heard::Read(register)
                 } else {
                     Heard::End

@@ -1,203 +1,346 @@
--- The controller's progress and the paper's description of an open command go hand in hand: at each point of a command the bus
--- events since its START are the ones that lead there, and each event takes both to the same next point, with the same act and the
+-- The controller's progress and the paper's description of an open command go hand in hand, in either kind: at each point of a command the bus
+-- events since its START are the ones that lead there, and each bus event takes both to the same next point, with the same act and the
 -- same reply. By cases on the point. Assumes nothing.
-use Prim.Native.Nat.{ℕ}
-use mathlib.Core.Path.{_≡_, refl, ap, sym, _∙_}
-use mathlib.Core.Bool.{Bool, true, false}
-use mathlib.Core.List.{List, [], _∷_, _++_}
-use lib.Dec.{eqb}
-use borrow.Author.Tests.{eq-eqb, eqb-true}
-use Rattle.event.specs.declared.Event.{Event}
-use Rattle.event.specs.declared.Event.the-variants.{Start, Stop, Byte, Take, Pins, Tick, Reset, Timeout}
-use Rattle.bus.specs.Progress.{ownWrite, ownRead, started, heard as heardByte}
+use Rattle.dock.specs.declared.Deed.the-variants.{NoDeed, Does}
+use Rattle.dock.specs.declared.Deed.{Deed}
+use Rattle.dock.specs.declared.Turn.{Turn}
+use Prim.Native.Nat.{ℕ, suc}
+use Rattle.bus.specs.declared.Reply.the-variants.{Ack, Driven, NoAck, NotDriven, Nothing}
+use Rattle.machine.specs.declared.Act.{Act}
+use Rattle.bus.specs.declared.Progress.the-variants.{Addressed, Again, Data, Idle, Opened, Reading, Register, Sending, Writing}
+use Rattle.demand.specs.Bus.{BYTE, Bus, START, STOP, TAKE, any-byte, stop, take-acked, take-nacked}
+use Rattle.kind.specs.declared.Kind.the-variants.{First, Second}
+use Rattle.kind.specs.declared.Kind.{Kind}
+use mathlib.Core.List.{List, [], _++_, _∷_, map}
 use Rattle.bus.specs.declared.Progress.{Progress}
-use Rattle.bus.specs.declared.Progress.the-variants.{Idle, Opened, Addressed, Register, Data, Again, Reading}
 use Rattle.bus.specs.declared.Reply.{Reply}
-use Rattle.bus.specs.declared.Reply.the-variants.{Nothing, NoAck, NotDriven}
-use Rattle.machine.specs.Acts.{does, doesAll, pinsTo, tickTo, resetTo}
-use Rattle.machine.specs.declared.Machine.{Machine}
-use Rattle.machine.proofs.Addresses.{write-steady}
-use Rattle.dock.specs.Events.{stopDeed, byteAt, takeReply, turnOf, next}
-use Rattle.dock.specs.declared.Controller.{Controller}
-use Rattle.demand.specs.Commands.{Bus, START, STOP, BYTE, TAKE, goesOn, completes, decides}
-use Rattle.demand.specs.Acts.{Is, a-start, a-stop, a-byte, a-take, Line, onBus, hears, decided}
-use Rattle.demand.specs.Plain.{lastRead, replyBy}
-use Rattle.demand.proofs.Forms.{none-begins}
+use mathlib.Core.Path.{_∙_, _≡_, ap, refl, sym}
+use Rattle.dock.specs.Events.{byteHeard, ended, startAt, stopAt, takeKnown, readAt, stopDeed}
+use Rattle.demand.specs.Described.{completes, decides, goesOn}
+use mathlib.Core.Bool.{cond, false, true, Bool}
+use borrow.Author.Tests.{eq-eqb, eqb-true}
+use lib.Dec.{eqb}
+use Rattle.bus.specs.Progress.{heard, knownTo, ownRead, ownWrite, started, startedKnown, heardKnown, holding, nextRegister}
+use lib.ListN.{length}
+use Rattle.demand.proofs.Forms.{none-begins, on-more, bytes-more, last-more, length-more, map-more, no-bytes, over-more, some-more, takes-more, within-more}
+use Rattle.demand.specs.Transfers.{numberAfter, secondCompletes, secondDecides, secondGoesOn}
+use Rattle.demand.specs.Commands.{firstCompletes, firstDecides, firstGoesOn}
+use Rattle.machine.specs.declared.Act.the-variants as act
 
--- The bus events that lead to a point of a command, for the controller with these straps, and the value that a read holds.
-unfoldable pub Stands : ℕ → Progress → List Bus → ℕ → Type 0
-Stands s Idle xs v = xs ≡ []
-Stands s Opened xs v = xs ≡ START ∷ []
-Stands s Addressed xs v = xs ≡ START ∷ BYTE (ownWrite s) ∷ []
-Stands s (Register r) xs v = xs ≡ START ∷ BYTE (ownWrite s) ∷ BYTE r ∷ []
-Stands s (Data r d) xs v = xs ≡ START ∷ BYTE (ownWrite s) ∷ BYTE r ∷ BYTE d ∷ []
-Stands s (Again r) xs v = xs ≡ START ∷ BYTE (ownWrite s) ∷ BYTE r ∷ START ∷ []
-Stands s (Reading x) xs v = (r : ℕ) × (xs ≡ START ∷ BYTE (ownWrite s) ∷ BYTE r ∷ START ∷ BYTE (ownRead s) ∷ []) × (v ≡ x)
+-- The bus events that lead to a point of a command, for the controller with these straps, and the value that a read holds. No point of the
+-- other kind is come to.
+unfoldable pub Stands : Kind → ℕ → Progress → List Bus → ℕ → Type 0
+Stands k s Idle xs v = xs ≡ []
+Stands k s Opened xs v = xs ≡ START ∷ []
+Stands k s Addressed xs v = xs ≡ START ∷ BYTE (ownWrite s) ∷ []
+Stands k s (Register r) xs v = xs ≡ START ∷ BYTE (ownWrite s) ∷ BYTE r ∷ []
+Stands First s (Data r d) xs v = xs ≡ START ∷ BYTE (ownWrite s) ∷ BYTE r ∷ BYTE d ∷ []
+Stands Second s (Data r d) xs v = ⊥
+Stands k s (Again r) xs v = xs ≡ START ∷ BYTE (ownWrite s) ∷ BYTE r ∷ START ∷ []
+Stands First s (Reading x) xs v = (r : ℕ) × (xs ≡ START ∷ BYTE (ownWrite s) ∷ BYTE r ∷ START ∷ BYTE (ownRead s) ∷ []) × (v ≡ x)
+Stands Second s (Reading x) xs v = ⊥
+Stands First s (Writing n) xs v = ⊥
+Stands Second s (Writing n) xs v =
+    (r : ℕ) × (d : ℕ) × (ds : List ℕ) × (xs ≡ START ∷ BYTE (ownWrite s) ∷ BYTE r ∷ BYTE d ∷ map BYTE ds) × (n ≡ numberAfter (suc (length ds)) r)
+Stands First s (Sending n x) xs v = ⊥
+Stands Second s (Sending n x) xs v =
+    (r : ℕ) × (ks : List ℕ) × (xs ≡ START ∷ BYTE (ownWrite s) ∷ BYTE r ∷ START ∷ BYTE (ownRead s) ∷ map (λ k. TAKE true) ks)
+    × (n ≡ numberAfter (length ks) r)
+    × (v ≡ x)
 
--- A line that has been heard beside a machine: it has the machine's straps.
-abbrev pub beside : Machine → List Bus → Line
-beside m xs = record { straps = m .straps; since = xs }
+-- ---- what a bus event comes to
 
--- What an event comes to, of a controller, the bus events xs of its open command and the last value v read: the controller does the
--- acts that the event decides, replies as the description says, and stands where the line has come to.
-pub record Lands (s : Controller) (xs : List Bus) (v : ℕ) (e : Event) : Type 0 where
+-- In the controller: of this kind, with these straps and registers that read so.
+abbrev pub busTurn : Kind → ℕ → (ℕ → ℕ) → Progress → Bus → Turn
+busTurn k s reads p START = startAt k p
+busTurn k s reads p STOP = stopAt k p
+busTurn k s reads p (BYTE b) = byteHeard k reads (heard k s b p)
+busTurn k s reads p (TAKE ack) = takeKnown k reads ack (knownTo k p)
+
+abbrev pub deedActs : Deed → List Act
+deedActs NoDeed = []
+deedActs (Does a) = a ∷ []
+
+-- The value read last, then.
+abbrev pub heldBy : (ℕ → ℕ) → ℕ → Deed → ℕ
+heldBy reads v NoDeed = v
+heldBy reads v (Does (act.Write r x)) = v
+heldBy reads v (Does (act.Read r)) = reads r
+heldBy reads v (Does (act.Pins levels)) = v
+heldBy reads v (Does act.Tick) = v
+heldBy reads v (Does (act.Reset straps levels short)) = v
+heldBy reads v (Does (act.Name k)) = v
+
+-- By the description.
+abbrev pub sinceAfter : Kind → ℕ → List Bus → Bus → List Bus
+sinceAfter k s xs b = cond (goesOn k s (xs ++ (b ∷ []))) (cond (completes k s (xs ++ (b ∷ []))) [] (xs ++ (b ∷ []))) []
+
+abbrev pub replyBus : Kind → ℕ → List Bus → ℕ → Bus → Reply
+replyBus k s xs v START = Nothing
+replyBus k s xs v STOP = Nothing
+replyBus k s xs v (BYTE b) = cond (goesOn k s (xs ++ (BYTE b ∷ []))) Ack NoAck
+replyBus k s xs v (TAKE ack) = cond (goesOn k s (xs ++ (TAKE ack ∷ []))) (Driven v) NotDriven
+
+pub record Lands (k : Kind) (s : ℕ) (reads : ℕ → ℕ) (p : Progress) (xs : List Bus) (v : ℕ) (b : Bus) : Type 0 where
   pub since : List Bus
-  pub does-acts : next s e .machine ≡ doesAll (decided (beside (s .machine) xs) e) (s .machine)
-  pub line : hears (beside (s .machine) xs) e ≡ beside (next s e .machine) since
-  pub stands : Stands (next s e .machine .straps) (next s e .progress) since (lastRead v (decided (beside (s .machine) xs) e) (s .machine))
-  pub replies : turnOf s e .reply ≡ replyBy (beside (s .machine) xs) v e
+  pub acts : deedActs (busTurn k s reads p b .deed) ≡ decides k s (xs ++ (b ∷ []))
+  pub line : sinceAfter k s xs b ≡ since
+  pub stands : Stands k s (busTurn k s reads p b .progress) since (heldBy reads v (busTurn k s reads p b .deed))
+  pub replies : busTurn k s reads p b .reply ≡ replyBus k s xs v b
 
-abbrev pub with : Machine → Progress → Controller
-with m p = record { machine = m; progress = p }
+-- ---- point by point
 
--- An own byte is the next one.
-pub own : (m : Machine) → eqb (ownWrite (m .straps)) (ownWrite (m .straps)) ≡ true
-own m = eq-eqb (ownWrite (m .straps)) (ownWrite (m .straps)) refl
+module _ (s : ℕ) (reads : ℕ → ℕ) (xs : List Bus) (v : ℕ) where
+  -- An own byte is the next one.
+  own : eqb (ownWrite s) (ownWrite s) ≡ true
+  own = eq-eqb (ownWrite s) (ownWrite s) refl
 
-own-read : (m : Machine) → eqb (ownRead (m .straps)) (ownRead (m .straps)) ≡ true
-own-read m = eq-eqb (ownRead (m .straps)) (ownRead (m .straps)) refl
+  own-read : eqb (ownRead s) (ownRead s) ≡ true
+  own-read = eq-eqb (ownRead s) (ownRead s) refl
 
-module _ (m : Machine) (xs : List Bus) (v : ℕ) where
-  -- ---- a bus event
-
-  pub hears-is : {e : Event} {b : Bus} → Is e b → hears (beside m xs) e ≡ onBus (beside m xs) b
-  unfolding hears
-  hears-is a-start = refl
-  hears-is a-stop = refl
-  hears-is a-byte = refl
-  hears-is a-take = refl
-
-  decided-is : {e : Event} {b : Bus} → Is e b → decided (beside m xs) e ≡ decides (m .straps) (xs ++ (b ∷ []))
-  unfolding decided
-  decided-is a-start = refl
-  decided-is a-stop = refl
-  decided-is a-byte = refl
-  decided-is a-take = refl
-
-  -- One that isn't the next of either form ends the command, with this reply, and decides nothing.
+  -- A bus event that isn't the next of a form ends the command, with this reply, and decides nothing.
   abbrev spentReply : Bus → Reply
   spentReply START = Nothing
   spentReply STOP = Nothing
   spentReply (BYTE b) = NoAck
   spentReply (TAKE ack) = NotDriven
 
-  spent-is : {e : Event} {b : Bus} → Is e b → goesOn (m .straps) (xs ++ (b ∷ [])) ≡ false → replyBy (beside m xs) v e ≡ spentReply b
-  unfolding replyBy
-  spent-is a-start g = refl
-  spent-is a-stop g = refl
-  spent-is a-byte g = rw g
-  spent-is (a-take {ack}) g = rw (none-begins (m .straps) (xs ++ (TAKE ack ∷ [])) g .incomplete)
+  spent-is : (k : Kind) (b : Bus) → goesOn k s (xs ++ (b ∷ [])) ≡ false → replyBus k s xs v b ≡ spentReply b
+  spent-is k START g = refl
+  spent-is k STOP g = refl
+  spent-is k (BYTE b) g = rw g
+  spent-is k (TAKE ack) g = rw g
 
-  ends :
-      {e : Event} {b : Bus} (p : Progress) → Is e b → goesOn (m .straps) (xs ++ (b ∷ [])) ≡ false
-      → next (with m p) e ≡ with m Idle → turnOf (with m p) e .reply ≡ spentReply b → Lands (with m p) xs v e
-  unfolding Stands onBus doesAll
-  ends {e} {b} p i g n r =
-      let nothing = decided-is i ∙ none-begins (m .straps) (xs ++ (b ∷ [])) g .undecided in
+  spent : (k : Kind) (p : Progress) (b : Bus) → goesOn k s (xs ++ (b ∷ [])) ≡ false → busTurn k s reads p b ≡ ended (spentReply b) → Lands k s reads p xs v b
+  unfolding Stands
+  spent k p b g t =
       record {
         since = [];
-        does-acts = rw (n, nothing);
-        line = hears-is i ∙ rw (g, n);
-        stands = rw n refl;
-        replies = r ∙ sym (spent-is i g);
+        acts = rw (t, none-begins k s (xs ++ (b ∷ [])) g .undecided);
+        line = rw g;
+        stands = rw t refl;
+        replies = ap (λ (x : Turn). x .reply) t ∙ sym (spent-is k b g);
       }
 
   -- ---- START
 
-  at-start : (p : Progress) → Stands (m .straps) p xs v → Lands (with m p) xs v Start
-  unfolding next turnOf Stands hears decided replyBy onBus goesOn completes decides does doesAll lastRead started
-  at-start Idle x =
-      record { since = START ∷ []; does-acts = rw x; line = rw x; stands = refl; replies = refl }
-  at-start Opened x = ends Opened a-start (rw x) refl refl
-  at-start Addressed x = ends Addressed a-start (rw (x, own m)) refl refl
-  at-start (Register r) x =
-      record { since = START ∷ BYTE (ownWrite (m .straps)) ∷ BYTE r ∷ START ∷ []; does-acts = rw (x, own m); line = rw (x, own m); stands = refl; replies = refl }
-  at-start (Data r d) x = ends (Data r d) a-start (rw (x, own m)) refl refl
-  at-start (Again r) x = ends (Again r) a-start (rw (x, own m)) refl refl
-  at-start (Reading y) x = ends (Reading y) a-start (rw (x .1, own m, own-read m)) refl refl
+  at-start : (k : Kind) (p : Progress) → Stands k s p xs v → Lands k s reads p xs v START
+  unfolding Stands goesOn completes decides firstGoesOn firstCompletes firstDecides secondGoesOn secondCompletes secondDecides started startedKnown knownTo
+  at-start First Idle x = record { since = START ∷ []; acts = rw x; line = rw x; stands = refl; replies = refl }
+  at-start Second Idle x = record { since = START ∷ []; acts = rw x; line = rw x; stands = refl; replies = refl }
+  at-start First Opened x = spent First Opened START (rw x) refl
+  at-start Second Opened x = spent Second Opened START (rw x) refl
+  at-start First Addressed x = spent First Addressed START (rw (x, own)) refl
+  at-start Second Addressed x = spent Second Addressed START (rw (x, own)) refl
+  at-start First (Register r) x =
+      record { since = START ∷ BYTE (ownWrite s) ∷ BYTE r ∷ START ∷ []; acts = rw (x, own); line = rw (x, own); stands = refl; replies = refl }
+  at-start Second (Register r) x =
+      record { since = START ∷ BYTE (ownWrite s) ∷ BYTE r ∷ START ∷ []; acts = rw (x, own); line = rw (x, own); stands = refl; replies = refl }
+  at-start First (Data r d) x = spent First (Data r d) START (rw (x, own)) refl
+  at-start Second (Data r d) x = absurd x
+  at-start First (Again r) x = spent First (Again r) START (rw (x, own)) refl
+  at-start Second (Again r) x = spent Second (Again r) START (rw (x, own)) refl
+  at-start First (Reading y) x = spent First (Reading y) START (rw (x .1, own, own-read)) refl
+  at-start Second (Reading y) x = absurd x
+  at-start First (Writing n) x = absurd x
+  at-start Second (Writing n) x = spent Second (Writing n) START (rw (x .3, own, on-more any-byte stop BYTE (λ _. refl) (λ _. refl) (x .2) START)) refl
+  at-start First (Sending n y) x = absurd x
+  at-start Second (Sending n y) x =
+      spent Second (Sending n y) START (rw (x .2, own, own-read, on-more take-acked take-nacked (λ k. TAKE true) (λ _. refl) (λ _. refl) (x .1) START)) refl
 
   -- ---- STOP
 
-  at-stop : (p : Progress) → Stands (m .straps) p xs v → Lands (with m p) xs v Stop
-  unfolding next turnOf Stands hears decided replyBy onBus goesOn completes decides does doesAll lastRead stopDeed
-  at-stop Idle x = ends Idle a-stop (rw x) refl refl
-  at-stop Opened x = ends Opened a-stop (rw x) refl refl
-  at-stop Addressed x = ends Addressed a-stop (rw (x, own m)) refl refl
-  at-stop (Register r) x = ends (Register r) a-stop (rw (x, own m)) refl refl
-  at-stop (Data r d) x =
+  at-stop : (k : Kind) (p : Progress) → Stands k s p xs v → Lands k s reads p xs v STOP
+  unfolding Stands goesOn completes decides firstGoesOn firstCompletes firstDecides secondGoesOn secondCompletes secondDecides stopDeed knownTo
+  at-stop First Idle x = spent First Idle STOP (rw x) refl
+  at-stop Second Idle x = spent Second Idle STOP (rw x) refl
+  at-stop First Opened x = spent First Opened STOP (rw x) refl
+  at-stop Second Opened x = spent Second Opened STOP (rw x) refl
+  at-stop First Addressed x = spent First Addressed STOP (rw (x, own)) refl
+  at-stop Second Addressed x = spent Second Addressed STOP (rw (x, own)) refl
+  at-stop First (Register r) x = spent First (Register r) STOP (rw (x, own)) refl
+  at-stop Second (Register r) x = record { since = []; acts = rw (x, own); line = rw (x, own); stands = refl; replies = refl }
+  at-stop First (Data r d) x = record { since = []; acts = rw (x, own); line = rw (x, own); stands = refl; replies = refl }
+  at-stop Second (Data r d) x = absurd x
+  at-stop First (Again r) x = spent First (Again r) STOP (rw (x, own)) refl
+  at-stop Second (Again r) x = spent Second (Again r) STOP (rw (x, own)) refl
+  at-stop First (Reading y) x = spent First (Reading y) STOP (rw (x .1, own, own-read)) refl
+  at-stop Second (Reading y) x = absurd x
+  at-stop First (Writing n) x = absurd x
+  at-stop Second (Writing n) x =
       record {
         since = [];
-        does-acts = rw (x, own m);
-        line = rw (x, own m) (ap (λ n. record { straps = n; since = [] }) (sym (write-steady r d m .straps)));
+        acts = rw (x .3, own, within-more any-byte stop BYTE (λ _. refl) (λ _. refl) (x .2) STOP);
+        line = rw (x .3, own, on-more any-byte stop BYTE (λ _. refl) (λ _. refl) (x .2) STOP, over-more any-byte stop BYTE (λ _. refl) (λ _. refl) (x .2) STOP);
         stands = refl;
         replies = refl;
       }
-  at-stop (Again r) x = ends (Again r) a-stop (rw (x, own m)) refl refl
-  at-stop (Reading y) x = ends (Reading y) a-stop (rw (x .1, own m, own-read m)) refl refl
-
-  -- ---- TAKE
-
-  at-take : (ack : Bool) (p : Progress) → Stands (m .straps) p xs v → Lands (with m p) xs v (Take ack)
-  unfolding next turnOf Stands hears decided replyBy onBus goesOn completes decides does doesAll lastRead takeReply
-  at-take ack Idle x = ends Idle a-take (rw x) refl refl
-  at-take ack Opened x = ends Opened a-take (rw x) refl refl
-  at-take ack Addressed x = ends Addressed a-take (rw (x, own m)) refl refl
-  at-take ack (Register r) x = ends (Register r) a-take (rw (x, own m)) refl refl
-  at-take ack (Data r d) x = ends (Data r d) a-take (rw (x, own m)) refl refl
-  at-take ack (Again r) x = ends (Again r) a-take (rw (x, own m)) refl refl
-  at-take ack (Reading y) x =
-      record { since = []; does-acts = rw (x .1, own m, own-read m); line = rw (x .1, own m, own-read m); stands = refl; replies = rw (x .1, own m, own-read m, x .2) }
+  at-stop First (Sending n y) x = absurd x
+  at-stop Second (Sending n y) x =
+      spent Second (Sending n y) STOP (rw (x .2, own, own-read, on-more take-acked take-nacked (λ k. TAKE true) (λ _. refl) (λ _. refl) (x .1) STOP)) refl
 
   -- ---- BYTE
 
   -- The own byte that a command waits for is the next one, and any other ends it.
-  at-opened : (b : ℕ) (t : Bool) → xs ≡ START ∷ [] → eqb b (ownWrite (m .straps)) ≡ t → Lands (with m Opened) xs v (Byte b)
-  unfolding next turnOf Stands hears decided replyBy onBus goesOn completes decides does doesAll lastRead byteAt heardByte
-  at-opened b true x e =
-      record {
-        since = START ∷ BYTE b ∷ [];
-        does-acts = rw (x, e);
-        line = rw (x, e);
-        stands = rw e (ap (λ n. START ∷ BYTE n ∷ []) (eqb-true _ _ e));
-        replies = rw (x, e);
-      }
-  at-opened b false x e = ends Opened a-byte (rw (x, e)) (rw e) (rw e)
+  at-opened : (k : Kind) (b : ℕ) (t : Bool) → xs ≡ START ∷ [] → eqb b (ownWrite s) ≡ t → Lands k s reads Opened xs v (BYTE b)
+  unfolding Stands goesOn completes decides firstGoesOn firstCompletes firstDecides secondGoesOn secondCompletes secondDecides byteHeard heard heardKnown knownTo
+  at-opened First b true x e =
+      record { since = START ∷ BYTE b ∷ []; acts = rw (x, e); line = rw (x, e); stands = rw e (ap (λ n. START ∷ BYTE n ∷ []) (eqb-true _ _ e)); replies = rw (x, e) }
+  at-opened Second b true x e =
+      record { since = START ∷ BYTE b ∷ []; acts = rw (x, e); line = rw (x, e); stands = rw e (ap (λ n. START ∷ BYTE n ∷ []) (eqb-true _ _ e)); replies = rw (x, e) }
+  at-opened First b false x e = spent First Opened (BYTE b) (rw (x, e)) (rw e)
+  at-opened Second b false x e = spent Second Opened (BYTE b) (rw (x, e)) (rw e)
 
   at-again :
-      (b r : ℕ) (t : Bool) → xs ≡ START ∷ BYTE (ownWrite (m .straps)) ∷ BYTE r ∷ START ∷ [] → eqb b (ownRead (m .straps)) ≡ t
-      → Lands (with m (Again r)) xs v (Byte b)
-  unfolding next turnOf Stands hears decided replyBy onBus goesOn completes decides does doesAll lastRead byteAt heardByte
-  at-again b r true x e =
+      (k : Kind) (b r : ℕ) (t : Bool) → xs ≡ START ∷ BYTE (ownWrite s) ∷ BYTE r ∷ START ∷ [] → eqb b (ownRead s) ≡ t → Lands k s reads (Again r) xs v (BYTE b)
+  unfolding Stands goesOn completes decides firstGoesOn firstCompletes firstDecides secondGoesOn secondCompletes secondDecides byteHeard readAt holding heard heardKnown knownTo
+  at-again First b r true x e =
       record {
-        since = START ∷ BYTE (ownWrite (m .straps)) ∷ BYTE r ∷ START ∷ BYTE b ∷ [];
-        does-acts = rw (x, own m, e);
-        line = rw (x, own m, e);
-        stands = rw (x, own m, e) (r, ap (λ n. START ∷ BYTE (ownWrite (m .straps)) ∷ BYTE r ∷ START ∷ BYTE n ∷ []) (eqb-true _ _ e), refl);
-        replies = rw (x, own m, e);
+        since = START ∷ BYTE (ownWrite s) ∷ BYTE r ∷ START ∷ BYTE b ∷ [];
+        acts = rw (x, own, e);
+        line = rw (x, own, e);
+        stands = rw e (r, ap (λ n. START ∷ BYTE (ownWrite s) ∷ BYTE r ∷ START ∷ BYTE n ∷ []) (eqb-true _ _ e), refl);
+        replies = rw (x, own, e);
       }
-  at-again b r false x e = ends (Again r) a-byte (rw (x, own m, e)) (rw e) (rw e)
+  at-again Second b r true x e =
+      record {
+        since = START ∷ BYTE (ownWrite s) ∷ BYTE r ∷ START ∷ BYTE b ∷ [];
+        acts = rw (x, own, e);
+        line = rw (x, own, e);
+        stands = rw e (r, [], ap (λ n. START ∷ BYTE (ownWrite s) ∷ BYTE r ∷ START ∷ BYTE n ∷ []) (eqb-true _ _ e), refl, refl);
+        replies = rw (x, own, e);
+      }
+  at-again First b r false x e = spent First (Again r) (BYTE b) (rw (x, own, e)) (rw e)
+  at-again Second b r false x e = spent Second (Again r) (BYTE b) (rw (x, own, e)) (rw e)
 
-  at-byte : (b : ℕ) (p : Progress) → Stands (m .straps) p xs v → Lands (with m p) xs v (Byte b)
-  unfolding next turnOf Stands hears decided replyBy onBus goesOn completes decides does doesAll lastRead byteAt heardByte
-  at-byte b Idle x = ends Idle a-byte (rw x) refl refl
-  at-byte b Opened x = at-opened b (eqb b (ownWrite (m .straps))) x refl
-  at-byte b Addressed x =
-      record { since = START ∷ BYTE (ownWrite (m .straps)) ∷ BYTE b ∷ []; does-acts = rw (x, own m); line = rw (x, own m); stands = refl; replies = rw (x, own m) }
-  at-byte b (Register r) x =
-      record { since = START ∷ BYTE (ownWrite (m .straps)) ∷ BYTE r ∷ BYTE b ∷ []; does-acts = rw (x, own m); line = rw (x, own m); stands = refl; replies = rw (x, own m) }
-  at-byte b (Data r d) x = ends (Data r d) a-byte (rw (x, own m)) refl refl
-  at-byte b (Again r) x = at-again b r (eqb b (ownRead (m .straps))) x refl
-  at-byte b (Reading y) x = ends (Reading y) a-byte (rw (x .1, own m, own-read m)) refl refl
+  at-byte : (k : Kind) (b : ℕ) (p : Progress) → Stands k s p xs v → Lands k s reads p xs v (BYTE b)
+  unfolding Stands goesOn completes decides firstGoesOn firstCompletes firstDecides secondGoesOn secondCompletes secondDecides byteHeard heard heardKnown knownTo nextRegister
+  at-byte First b Idle x = spent First Idle (BYTE b) (rw x) refl
+  at-byte Second b Idle x = spent Second Idle (BYTE b) (rw x) refl
+  at-byte First b Opened x = at-opened First b (eqb b (ownWrite s)) x refl
+  at-byte Second b Opened x = at-opened Second b (eqb b (ownWrite s)) x refl
+  at-byte First b Addressed x =
+      record { since = START ∷ BYTE (ownWrite s) ∷ BYTE b ∷ []; acts = rw (x, own); line = rw (x, own); stands = refl; replies = rw (x, own) }
+  at-byte Second b Addressed x =
+      record { since = START ∷ BYTE (ownWrite s) ∷ BYTE b ∷ []; acts = rw (x, own); line = rw (x, own); stands = refl; replies = rw (x, own) }
+  at-byte First b (Register r) x =
+      record { since = START ∷ BYTE (ownWrite s) ∷ BYTE r ∷ BYTE b ∷ []; acts = rw (x, own); line = rw (x, own); stands = refl; replies = rw (x, own) }
+  at-byte Second b (Register r) x =
+      record {
+        since = START ∷ BYTE (ownWrite s) ∷ BYTE r ∷ BYTE b ∷ [];
+        acts = rw (x, own);
+        line = rw (x, own);
+        stands = (r, b, [], refl, refl);
+        replies = rw (x, own);
+      }
+  at-byte First b (Data r d) x = spent First (Data r d) (BYTE b) (rw (x, own)) refl
+  at-byte Second b (Data r d) x = absurd x
+  at-byte First b (Again r) x = at-again First b r (eqb b (ownRead s)) x refl
+  at-byte Second b (Again r) x = at-again Second b r (eqb b (ownRead s)) x refl
+  at-byte First b (Reading y) x = spent First (Reading y) (BYTE b) (rw (x .1, own, own-read)) refl
+  at-byte Second b (Reading y) x = absurd x
+  at-byte First b (Writing n) x = absurd x
+  at-byte Second b (Writing n) x =
+      let ds = x .2 in
+      record {
+        since = START ∷ BYTE (ownWrite s) ∷ BYTE (x .0) ∷ BYTE (x .1) ∷ map BYTE (ds ++ (b ∷ []));
+        acts =
+            rw (
+              x .3,
+              own,
+              within-more any-byte stop BYTE (λ _. refl) (λ _. refl) ds (BYTE b),
+              bytes-more ds b,
+              some-more ds b,
+              last-more ds b,
+              length-more ds b,
+              x .4,
+            );
+        line =
+            rw (
+              x .3,
+              own,
+              on-more any-byte stop BYTE (λ _. refl) (λ _. refl) ds (BYTE b),
+              over-more any-byte stop BYTE (λ _. refl) (λ _. refl) ds (BYTE b),
+              map-more BYTE ds b,
+            );
+        stands = (x .0, x .1, ds ++ (b ∷ []), refl, rw (length-more ds b, x .4));
+        replies = rw (x .3, own, on-more any-byte stop BYTE (λ _. refl) (λ _. refl) ds (BYTE b));
+      }
+  at-byte First b (Sending n y) x = absurd x
+  at-byte Second b (Sending n y) x =
+      spent Second (Sending n y) (BYTE b) (rw (x .2, own, own-read, on-more take-acked take-nacked (λ k. TAKE true) (λ _. refl) (λ _. refl) (x .1) (BYTE b))) refl
 
-  -- ---- every event
+  -- ---- TAKE
 
-  pub event-lands : (p : Progress) → Stands (m .straps) p xs v → (e : Event) → Lands (with m p) xs v e
-  unfolding next turnOf Stands hears decided replyBy does doesAll lastRead pinsTo tickTo resetTo
-  event-lands p x Start = at-start p x
-  event-lands p x Stop = at-stop p x
-  event-lands p x (Byte b) = at-byte b p x
-  event-lands p x (Take ack) = at-take ack p x
-  event-lands p x (Pins levels) = record { since = xs; does-acts = refl; line = refl; stands = x; replies = refl }
-  event-lands p x Tick = record { since = xs; does-acts = refl; line = refl; stands = x; replies = refl }
-  event-lands p x (Reset straps levels short) = record { since = []; does-acts = refl; line = refl; stands = refl; replies = refl }
-  event-lands p x Timeout = record { since = []; does-acts = refl; line = refl; stands = refl; replies = refl }
+  -- In an open read of the second kind: ACKed, and not.
+  at-sending : (ack : Bool) (n y : ℕ) → Stands Second s (Sending n y) xs v → Lands Second s reads (Sending n y) xs v (TAKE ack)
+  unfolding Stands goesOn completes decides secondGoesOn secondCompletes secondDecides takeKnown readAt holding knownTo nextRegister
+  at-sending true n y x =
+      let ks = x .1 in
+      record {
+        since = START ∷ BYTE (ownWrite s) ∷ BYTE (x .0) ∷ START ∷ BYTE (ownRead s) ∷ map (λ k. TAKE true) (ks ++ (0 ∷ []));
+        acts =
+            rw (
+              x .2,
+              own,
+              own-read,
+              within-more take-acked take-nacked (λ k. TAKE true) (λ _. refl) (λ _. refl) ks (TAKE true),
+              takes-more ks,
+              x .3,
+            );
+        line =
+            rw (
+              x .2,
+              own,
+              own-read,
+              on-more take-acked take-nacked (λ k. TAKE true) (λ _. refl) (λ _. refl) ks (TAKE true),
+              over-more take-acked take-nacked (λ k. TAKE true) (λ _. refl) (λ _. refl) ks (TAKE true),
+              map-more (λ k. TAKE true) ks 0,
+            );
+        stands = (x .0, ks ++ (0 ∷ []), refl, rw (length-more ks 0, x .3), refl);
+        replies = rw (x .2, own, own-read, on-more take-acked take-nacked (λ k. TAKE true) (λ _. refl) (λ _. refl) ks (TAKE true), x .4);
+      }
+  at-sending false n y x =
+      let ks = x .1 in
+      record {
+        since = [];
+        acts = rw (x .2, own, own-read, within-more take-acked take-nacked (λ k. TAKE true) (λ _. refl) (λ _. refl) ks (TAKE false));
+        line =
+            rw (
+              x .2,
+              own,
+              own-read,
+              on-more take-acked take-nacked (λ k. TAKE true) (λ _. refl) (λ _. refl) ks (TAKE false),
+              over-more take-acked take-nacked (λ k. TAKE true) (λ _. refl) (λ _. refl) ks (TAKE false),
+            );
+        stands = refl;
+        replies = rw (x .2, own, own-read, on-more take-acked take-nacked (λ k. TAKE true) (λ _. refl) (λ _. refl) ks (TAKE false), x .4);
+      }
+
+  at-take : (k : Kind) (ack : Bool) (p : Progress) → Stands k s p xs v → Lands k s reads p xs v (TAKE ack)
+  unfolding Stands goesOn completes decides firstGoesOn firstCompletes firstDecides secondGoesOn secondCompletes secondDecides takeKnown knownTo
+  at-take First ack Idle x = spent First Idle (TAKE ack) (rw x) refl
+  at-take Second ack Idle x = spent Second Idle (TAKE ack) (rw x) refl
+  at-take First ack Opened x = spent First Opened (TAKE ack) (rw x) refl
+  at-take Second ack Opened x = spent Second Opened (TAKE ack) (rw x) refl
+  at-take First ack Addressed x = spent First Addressed (TAKE ack) (rw (x, own)) refl
+  at-take Second ack Addressed x = spent Second Addressed (TAKE ack) (rw (x, own)) refl
+  at-take First ack (Register r) x = spent First (Register r) (TAKE ack) (rw (x, own)) refl
+  at-take Second ack (Register r) x = spent Second (Register r) (TAKE ack) (rw (x, own)) refl
+  at-take First ack (Data r d) x = spent First (Data r d) (TAKE ack) (rw (x, own)) refl
+  at-take Second ack (Data r d) x = absurd x
+  at-take First ack (Again r) x = spent First (Again r) (TAKE ack) (rw (x, own)) refl
+  at-take Second ack (Again r) x = spent Second (Again r) (TAKE ack) (rw (x, own)) refl
+  at-take First ack (Reading y) x =
+      record { since = []; acts = rw (x .1, own, own-read); line = rw (x .1, own, own-read); stands = refl; replies = rw (x .1, own, own-read, x .2) }
+  at-take Second ack (Reading y) x = absurd x
+  at-take First ack (Writing n) x = absurd x
+  at-take Second ack (Writing n) x = spent Second (Writing n) (TAKE ack) (rw (x .3, own, on-more any-byte stop BYTE (λ _. refl) (λ _. refl) (x .2) (TAKE ack))) refl
+  at-take First ack (Sending n y) x = absurd x
+  at-take Second ack (Sending n y) x = at-sending ack n y x
+
+  pub bus-lands : (k : Kind) (p : Progress) → Stands k s p xs v → (b : Bus) → Lands k s reads p xs v b
+  bus-lands k p x START = at-start k p x
+  bus-lands k p x STOP = at-stop k p x
+  bus-lands k p x (BYTE b) = at-byte k b p x
+  bus-lands k p x (TAKE ack) = at-take k ack p x

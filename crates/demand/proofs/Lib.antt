@@ -5,5 +5,5 @@ pub mod Follows
 pub mod Driven
 pub mod Broken
 pub mod Demand3
-pub mod Trace
 pub mod Held
+pub mod Trace

@@ -1,13 +1,16 @@
--- Which acts a list of events contains (document 01, "Bus commands"): each whole command is one act, at its deciding event, and pin
--- samples, ticks and resets stand in their places.
-use Prim.Native.Nat.{ℕ}
-use mathlib.Core.Bool.{Bool, cond}
-use mathlib.Core.List.{List, [], _∷_, _++_}
-use Rattle.event.specs.declared.Event.{Event}
+-- Which acts a list of events contains (document 01, "Bus commands"; document 03, "Bus transfers" and "State"): each whole command is one act, at
+-- its deciding event, and in the second kind each byte; pin samples, ticks, resets and names stand in their places.
 use Rattle.event.specs.declared.Event.the-variants.{Start, Stop, Byte, Take, Pins, Tick, Reset, Timeout}
-use Rattle.machine.specs.declared.Act.{Act}
 use Rattle.machine.specs.declared.Act.the-variants as act
-use Rattle.demand.specs.Commands.{Bus, START, STOP, BYTE, TAKE, goesOn, completes, decides}
+use Prim.Native.Nat.{ℕ}
+use Rattle.machine.specs.declared.Act.{Act}
+use Rattle.demand.specs.Bus.{BYTE, Bus, START, STOP, TAKE}
+use mathlib.Core.Bool.{Bool, cond}
+use Rattle.event.specs.declared.Event.{Event}
+use Rattle.kind.specs.declared.Kind.the-variants.{First}
+use Rattle.kind.specs.declared.Kind.{Kind}
+use mathlib.Core.List.{List, [], _++_, _∷_}
+use Rattle.demand.specs.Described.{completes, decides, goesOn}
 
 -- An event that is a bus event.
 pub data Is : Event → Bus → Type 0 where
@@ -16,13 +19,25 @@ pub data Is : Event → Bus → Type 0 where
   a-byte : {b : ℕ} → Is (Byte b) (BYTE b)
   a-take : {ack : Bool} → Is (Take ack) (TAKE ack)
 
--- What has been heard on the bus: the straps of the last RESET, and the bus events of the open command (none: no command is open).
+-- What happens to a controller: an event, or a call that names a kind.
+pub data Happening : Type 0 where
+  event : Event → Happening
+  name : Kind → Happening
+
+-- What has been heard: the straps of the last RESET, the kind that it put in force, the kind named since, and the bus events of the open
+-- command (none: no command is open).
 pub record Line : Type 0 where
   pub straps : ℕ
+  pub kind : Kind
+  pub named : Kind
   pub since : List Bus
 
 unfoldable pub silent : Line
-silent = record { straps = 0; since = [] }
+silent = record { straps = 0; kind = First; named = First; since = [] }
+
+-- The same with these bus events.
+abbrev pub having : List Bus → Line → Line
+having since l = record { straps = l .straps; kind = l .kind; named = l .named; since = since }
 
 -- The open command with one event more; a START opens a command when none is open.
 abbrev pub with-event : Line → Bus → List Bus
@@ -32,12 +47,11 @@ with-event l e = l .since ++ (e ∷ [])
 -- command, is spent with it and opens nothing.
 unfoldable pub onBus : Line → Bus → Line
 onBus l e =
-    record {
-      straps = l .straps;
-      since = cond (goesOn (l .straps) (with-event l e)) (cond (completes (l .straps) (with-event l e)) [] (with-event l e)) [];
-    }
+    having
+    (cond (goesOn (l .kind) (l .straps) (with-event l e)) (cond (completes (l .kind) (l .straps) (with-event l e)) [] (with-event l e)) [])
+    l
 
--- PINS and TICK are passed over by the command; TIMEOUT and RESET end it.
+-- PINS and TICK are passed over by the command; TIMEOUT and RESET end it, and a RESET puts the named kind in force.
 unfoldable pub hears : Line → Event → Line
 hears l Start = onBus l START
 hears l Stop = onBus l STOP
@@ -45,31 +59,41 @@ hears l (Byte b) = onBus l (BYTE b)
 hears l (Take ack) = onBus l (TAKE ack)
 hears l (Pins levels) = l
 hears l Tick = l
-hears l (Reset straps levels short) = record { straps = straps; since = [] }
-hears l Timeout = record { straps = l .straps; since = [] }
+hears l (Reset straps levels short) = record { straps = straps; kind = l .named; named = l .named; since = [] }
+hears l Timeout = having [] l
 
 -- The acts that an event decides: one, or none.
 unfoldable pub decided : Line → Event → List Act
-decided l Start = decides (l .straps) (with-event l START)
-decided l Stop = decides (l .straps) (with-event l STOP)
-decided l (Byte b) = decides (l .straps) (with-event l (BYTE b))
-decided l (Take ack) = decides (l .straps) (with-event l (TAKE ack))
+decided l Start = decides (l .kind) (l .straps) (with-event l START)
+decided l Stop = decides (l .kind) (l .straps) (with-event l STOP)
+decided l (Byte b) = decides (l .kind) (l .straps) (with-event l (BYTE b))
+decided l (Take ack) = decides (l .kind) (l .straps) (with-event l (TAKE ack))
 decided l (Pins levels) = act.Pins levels ∷ []
 decided l Tick = act.Tick ∷ []
 decided l (Reset straps levels short) = act.Reset straps levels short ∷ []
 decided l Timeout = []
 
--- Along a list of events: what has been heard, and the acts, in order.
-unfoldable pub lineAfter : Line → List Event → Line
+-- A name is heard, and is an act of its own; the open command goes on.
+unfoldable pub meets : Line → Happening → Line
+meets l (event e) = hears l e
+meets l (name k) = record { straps = l .straps; kind = l .kind; named = k; since = l .since }
+
+unfoldable pub actsAt : Line → Happening → List Act
+actsAt l (event e) = decided l e
+actsAt l (name k) = act.Name k ∷ []
+
+-- Along a list: what has been heard, and the acts, in order.
+unfoldable pub lineAfter : Line → List Happening → Line
 lineAfter l [] = l
-lineAfter l (e ∷ es) = lineAfter (hears l e) es
+lineAfter l (h ∷ hs) = lineAfter (meets l h) hs
 
-unfoldable pub actsOf : Line → List Event → List Act
+unfoldable pub actsOf : Line → List Happening → List Act
 actsOf l [] = []
-actsOf l (e ∷ es) = decided l e ++ actsOf (hears l e) es
+actsOf l (h ∷ hs) = actsAt l h ++ actsOf (meets l h) hs
 
--- Events that fall inside a command and are passed over.
-pub data PassedOver : List Event → Type 0 where
+-- What falls inside a command and is passed over: PINS, TICK, and a name.
+pub data PassedOver : List Happening → Type 0 where
   none : PassedOver []
-  pins : {es : List Event} (levels : ℕ) → PassedOver es → PassedOver (Pins levels ∷ es)
-  tick : {es : List Event} → PassedOver es → PassedOver (Tick ∷ es)
+  pins : {hs : List Happening} (levels : ℕ) → PassedOver hs → PassedOver (event (Pins levels) ∷ hs)
+  tick : {hs : List Happening} → PassedOver hs → PassedOver (event Tick ∷ hs)
+  naming : {hs : List Happening} (k : Kind) → PassedOver hs → PassedOver (name k ∷ hs)

@@ -1,4 +1,7 @@
+pub mod Bus
 pub mod Commands
+pub mod Transfers
+pub mod Described
 pub mod Acts
 pub mod Words
 pub mod Plain

@@ -1,4 +1,8 @@
 -- The contract of each exported call, as the checker reads it, determines the call's answer. Assumes nothing.
+use Rattle.dock.proofs.Controller.name.Reads as name-reads
+use Rattle.dock.proofs.Naming.refusal.Reads as naming-refusal-reads
+use Rattle.dock.specs.declared.Renamed.{Renamed}
+use Rattle.dock.specs.declared.Naming.{Naming}
 use Prim.Native.Nat.{ℕ}
 use mathlib.Core.Path.{_≡_, _∙_, sym}
 use mathlib.Core.Bool.{Bool}
@@ -58,3 +62,11 @@ told-refusal-determined t r s p q = p ∙ sym q
 
 pub told-value-determined : (t : Told) (r s : ℕ) → told-value-reads.Post tt (t, tt) r (t, tt) → told-value-reads.Post tt (t, tt) s (t, tt) → r ≡ s
 told-value-determined t r s p q = p ∙ sym q
+
+pub name-determined :
+    (c : Controller) (n : ℕ) (r s : Renamed) → name-reads.Post tt (c, (n, tt)) r (c, (n, tt)) → name-reads.Post tt (c, (n, tt)) s (c, (n, tt)) → r ≡ s
+name-determined c n r s p q = p ∙ sym q
+
+pub naming-refusal-determined :
+    (x : Naming) (r s : ℕ) → naming-refusal-reads.Post tt (x, tt) r (x, tt) → naming-refusal-reads.Post tt (x, tt) s (x, tt) → r ≡ s
+naming-refusal-determined x r s p q = p ∙ sym q

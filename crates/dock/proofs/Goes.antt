@@ -1,9 +1,9 @@
 -- The single call for a caller that has seen that the state is fit and knows its outputs: it goes on as the single call does, and
 -- the outputs that it tells are those of the state that it leaves. Assumes nothing.
 use Prim.Native.Nat.{ℕ, _<_, _^_}
-use mathlib.Core.Path.{_≡_, refl, ap, _∙_, sym}
+use mathlib.Core.Path.{_≡_, refl, ap, sym}
 use mathlib.Core.Bool.{Bool, true, false, cond, _||_}
-use Rattle.event.specs.Words.{unpacked, isReset, isResetWord}
+use Rattle.event.specs.Words.{unpacked}
 use Rattle.event.specs.declared.Event.{Event}
 use Rattle.event.specs.declared.Unpacked.{Unpacked}
 use Rattle.event.specs.declared.Unpacked.the-variants.{Accepted, StrayBit as NoEvent}
@@ -13,7 +13,7 @@ use Rattle.machine.specs.Record.{fits}
 use Rattle.machine.specs.Outputs.{outputs}
 use Rattle.machine.specs.declared.Machine.{Machine}
 use Rattle.machine.proofs.Keeps.{kept-outputs}
-use Rattle.dock.specs.Events.{turnOf, done, taken, next, kept}
+use Rattle.dock.specs.Events.{turnOf, done, next, kept}
 use Rattle.dock.specs.Step.{takes, refused, doneStep, stepFit, stepOf, takesWord, untaken, stays, outputsAfter, went, wentBy, wentOf}
 use Rattle.dock.specs.declared.Answer.the-variants.{NotStarted}
 use Rattle.dock.specs.declared.Controller.{Controller}

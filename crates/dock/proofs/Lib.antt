@@ -1,4 +1,6 @@
 pub mod Kept
+pub mod Named
+pub mod Every
 pub mod Laws
 pub mod Decided
 pub mod Parts
@@ -12,3 +14,4 @@ pub mod Goes
 pub mod Run
 pub mod Determined
 pub mod Examples
+pub mod SecondExamples

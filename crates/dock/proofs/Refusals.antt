@@ -15,7 +15,7 @@ use Rattle.event.proofs.RoundTrip.{accepted-is-none}
 use Rattle.bay.proofs.Taut.{pick}
 use Rattle.machine.specs.Record.{fits}
 use Rattle.machine.specs.Outputs.{outputs}
-use Rattle.machine.specs.Registers.{reading}
+use Rattle.machine.specs.InForce.{reading}
 use Rattle.dock.specs.Answers.{refusalOf, replyOf, byteOf, outputsOf, toldRefusal, toldValue}
 use Rattle.dock.specs.Step.{takes, refused, stepFit, stepOf, toldReading, toldOutputs}
 use Rattle.dock.specs.Refusals.{IsReset, Exactly}

@@ -9,7 +9,7 @@ use Rattle.event.specs.declared.Event.the-variants.{Start, Stop, Byte, Take, Pi
 use Rattle.event.specs.declared.Unpacked.{Unpacked}
 use Rattle.event.specs.declared.Unpacked.the-variants.{Accepted, StrayBit as NoEvent}
 use Rattle.bus.specs.declared.Progress.{Progress}
-use Rattle.bus.specs.declared.Progress.the-variants.{Idle, Opened, Addressed, Register, Data, Again, Reading}
+use Rattle.bus.specs.declared.Progress.the-variants.{Idle, Opened, Addressed, Register, Data, Again, Reading, Sending, Writing}
 use Rattle.bay.specs.Record.{present}
 use Rattle.bay.specs.Moves.{tickedBay}
 use Rattle.bay.specs.Sound.{Sound}
@@ -19,15 +19,14 @@ use Rattle.bay.specs.declared.Setting.{Setting}
 use Rattle.bay.proofs.Taut.{pick}
 use Rattle.bay.proofs.Sound.{ticked-sound}
 use Rattle.bay.proofs.Press.{WithArrival, press-over-nothing, empty-without-device, press-with-arrival}
-use Rattle.machine.specs.Record.{bayAt, isOpen, hides, fits}
+use Rattle.machine.specs.Record.{bayAt, isOpen, fits}
+use Rattle.machine.specs.Setting.{hides, settingOf}
 use Rattle.machine.specs.Acts.{does}
-use Rattle.machine.specs.declared.Act.the-variants as act
 use Rattle.machine.specs.Remreq.{remreq, remreqAfter}
-use Rattle.machine.specs.Registers.{settingOf}
 use Rattle.machine.specs.After.{bayAfter}
 use Rattle.machine.proofs.After.{bay-after}
 use Rattle.machine.proofs.Remreq.{remreq-after}
-use Rattle.dock.specs.Events.{atStop, turnOf, next}
+use Rattle.dock.specs.Events.{atStop, turnOf, next, atByte}
 use Rattle.dock.specs.Step.{takes, stepFit, stepOf}
 use Rattle.dock.specs.Run.{Reached}
 use Rattle.dock.specs.Remreq.{remreqNext, afterTick}
@@ -35,6 +34,10 @@ use Rattle.dock.specs.declared.Controller.{Controller}
 use Rattle.dock.specs.declared.Stepped.{Stepped}
 use Rattle.dock.proofs.Laws.{reached-sound}
 use Rattle.dock.proofs.Parts.{part-next}
+use Rattle.bus.specs.declared.Heard.{Heard}
+use Rattle.bus.specs.declared.Heard.the-variants.{On, Write, Read, End}
+use Rattle.bus.specs.Progress.{heard, knownTo}
+use Rattle.machine.specs.declared.Act.the-variants as act
 
 -- ---- at each event and each word
 
@@ -50,7 +53,7 @@ pub record Raised (s : Controller) (i : ℕ) (u : Unpacked) (after : Controller)
 event-raises : (s : Controller) (e : Event) (i : ℕ) → remreq (s .machine) i ≡ false → remreqNext s i e ≡ true → Raised s i (Accepted e) (next s e)
 unfolding next turnOf remreqNext remreqAfter
 event-raises s Start i z t = absurd (false≢true (sym z ∙ t))
-event-raises s Stop i z t = absurd (false≢true (sym (stopped (s .progress)) ∙ t))
+event-raises s Stop i z t = absurd (false≢true (sym (stopped (knownTo (s .machine .kind) (s .progress))) ∙ t))
   where
     stopped : (p : Progress) → atStop (remreqAfter (s .machine) i) (remreq (s .machine) i) p ≡ false
     stopped Idle = z
@@ -60,7 +63,15 @@ event-raises s Stop i z t = absurd (false≢true (sym (stopped (s .progress)) �
     stopped (Data r v) = rw z
     stopped (Again r) = z
     stopped (Reading v) = z
-event-raises s (Byte b) i z t = absurd (false≢true (sym z ∙ t))
+    stopped (Writing r) = z
+    stopped (Sending r v) = z
+event-raises s (Byte b) i z t = absurd (false≢true (sym (heard-as (heard (s .machine .kind) (s .machine .straps) b (s .progress))) ∙ t))
+  where
+    heard-as : (h : Heard) → atByte (remreqAfter (s .machine) i) (remreq (s .machine) i) h ≡ false
+    heard-as (On p) = z
+    heard-as (Write r v) = rw z
+    heard-as (Read r) = z
+    heard-as End = z
 event-raises s (Take ack) i z t = absurd (false≢true (sym z ∙ t))
 event-raises s (Pins levels) i z t = absurd (false≢true (sym z ∙ t))
 event-raises s Tick i z t = record { a-tick = refl; a-press = rw z at t }

@@ -2,11 +2,11 @@
 -- Assumes nothing.
 use Prim.Native.Nat.{ℕ, suc, _<_}
 use mathlib.Core.Path.{_≡_, refl, ap}
-use mathlib.Core.List.{List, [], _∷_, _++_}
+use mathlib.Core.List.{List, [], _∷_, _++_, map}
 use lib.ListN.{length, take, getD}
 use lib.Seq.{take-suc}
 use Rattle.dock.specs.Step.{stepOf}
-use Rattle.dock.specs.Run.{after, answersTo}
+use Rattle.dock.specs.Run.{after, answersTo, Call, word, afterCall, afterCalls}
 use Rattle.dock.specs.declared.Controller.{Controller}
 
 pub after-append : (s : Controller) (xs ys : List ℕ) → after s (xs ++ ys) ≡ after (after s xs) ys
@@ -34,3 +34,16 @@ pub answers-next :
     → answersTo s (take (suc i) ws) ≡ answersTo s (take i ws) ++ (stepOf (after s (take i ws)) (getD ws i 0) .answer ∷ [])
 unfolding answersTo
 answers-next s ws i h = rw (take-suc ws i 0 h) (answers-append s (take i ws) (getD ws i 0 ∷ []))
+
+-- ---- calls
+
+pub calls-append : (s : Controller) (cs ds : List Call) → afterCalls s (cs ++ ds) ≡ afterCalls (afterCalls s cs) ds
+unfolding afterCalls
+calls-append s [] ds = refl
+calls-append s (c ∷ cs) ds = calls-append (afterCall s c) cs ds
+
+-- Words alone are calls.
+pub words-calls : (s : Controller) (ws : List ℕ) → afterCalls s (map word ws) ≡ after s ws
+unfolding after afterCalls
+words-calls s [] = refl
+words-calls s (w ∷ ws) = words-calls (stepOf s w .controller) ws

@@ -7,7 +7,7 @@ use lib.Dec.{eqb}
 use lib.ListN.{replicate}
 use Rattle.bits.specs.Bits.{bit}
 use Rattle.machine.specs.Outputs.{outputs}
-use Rattle.machine.specs.Registers.{reading}
+use Rattle.machine.specs.InForce.{reading}
 use Rattle.dock.specs.Answers.{refusalOf, replyOf, byteOf, outputsOf}
 use Rattle.dock.specs.Step.{stepOf}
 use Rattle.dock.specs.Record.{freshController}

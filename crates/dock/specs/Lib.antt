@@ -2,10 +2,12 @@ pub mod Record
 pub mod Events
 pub mod Answers
 pub mod Step
+pub mod Name
 pub mod Refusals
 pub mod Run
 pub mod Examples
 pub mod Ours
+pub mod SecondExamples
 pub mod Moves
 pub mod Parts
 pub mod Remreq

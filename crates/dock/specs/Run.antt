@@ -6,6 +6,7 @@ use Rattle.dock.specs.Record.{freshController}
 use Rattle.dock.specs.Step.{stepOf}
 use Rattle.dock.specs.declared.Controller.{Controller}
 use Rattle.dock.specs.declared.Answer.{Answer}
+use Rattle.dock.specs.Name.{nameOf}
 
 -- The state afterwards.
 unfoldable pub after : Controller → List ℕ → Controller
@@ -17,7 +18,21 @@ unfoldable pub answersTo : Controller → List ℕ → List Answer
 answersTo s [] = []
 answersTo s (w ∷ ws) = stepOf s w .answer ∷ answersTo (stepOf s w .controller) ws
 
--- A state that some list of words reaches from a fresh controller.
+-- A call that may alter the state: a word, or a number that names a kind (document 03, "Naming the kind").
+pub data Call : Type 0 where
+  word : ℕ → Call
+  naming : ℕ → Call
+
+abbrev pub afterCall : Controller → Call → Controller
+afterCall s (word w) = stepOf s w .controller
+afterCall s (naming n) = nameOf s n .controller
+
+-- The state after such calls, one after the other.
+unfoldable pub afterCalls : Controller → List Call → Controller
+afterCalls s [] = s
+afterCalls s (c ∷ cs) = afterCalls (afterCall s c) cs
+
+-- A state that some list of calls reaches from a fresh controller.
 pub record Reached (s : Controller) : Type 0 where
-  pub words : List ℕ
-  pub by : after freshController words ≡ s
+  pub calls : List Call
+  pub by : afterCalls freshController calls ≡ s

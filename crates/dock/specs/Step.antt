@@ -7,7 +7,7 @@ use Rattle.event.specs.declared.Unpacked.{Unpacked}
 use Rattle.event.specs.declared.Unpacked.the-variants.{Accepted, StrayBit as NoEvent}
 use Rattle.machine.specs.Record.{fits}
 use Rattle.machine.specs.Outputs.{outputs}
-use Rattle.machine.specs.Registers.{reading}
+use Rattle.machine.specs.InForce.{reading}
 use Rattle.machine.specs.declared.Machine.{Machine}
 use Rattle.dock.specs.Events.{turnOf, next, kept}
 use Rattle.dock.specs.declared.Controller.{Controller}

@@ -1,7 +1,8 @@
-// The controller of a two-bay dock (document 01): a machine and a bus command in progress, one event word at a time,
-// and the two questions that change nothing, one register's reading and the nine outputs.
+// The controller of a two-bay dock (document 01; document 03): a machine and a bus command in progress, one event word at a
+// time, the call that names its kind, and the two questions that change nothing, one register's reading and the nine outputs.
 mod answers;
 mod events;
+mod name;
 mod record;
 mod step;
 
@@ -42,11 +43,11 @@ pub struct Went {
 }
 
 // What an event that isn't refused comes to.
-struct Turn {
+pub struct Turn {
     // How far the command has come then.
-    progress: Progress,
-    deed: Deed,
-    reply: Reply,
+    pub progress: Progress,
+    pub deed: Deed,
+    pub reply: Reply,
 }
 
 // What it leaves.
@@ -57,9 +58,24 @@ struct Taken {
 }
 
 // What an event has the machine do.
-enum Deed {
+pub enum Deed {
     NoDeed,
     Does(Act),
+}
+
+// What the call that names a kind answers.
+pub enum Naming {
+    // The name is stored.
+    Stored,
+    // The state isn't fit.
+    Unfit,
+    // The number is of neither kind.
+    NoSuchKind,
+}
+
+pub struct Renamed {
+    pub controller: Controller,
+    pub naming: Naming,
 }
 
 // What a question about a state answers.

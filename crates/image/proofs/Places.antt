@@ -3,7 +3,7 @@ use Prim.Native.Nat.{ℕ}
 use mathlib.Core.Path.{_≡_, refl}
 use mathlib.Core.List.{[], _∷_, map}
 use lib.ListN.{drop}
-use Rattle.bus.specs.declared.Progress.the-variants.{Idle, Opened, Addressed, Register, Data, Again, Reading}
+use Rattle.bus.specs.declared.Progress.the-variants.{Idle, Opened, Addressed, Register, Data, Again, Reading, Writing, Sending}
 use Rattle.dock.specs.declared.Controller.{Controller}
 use Rattle.image.specs.Layout.{PROGRESS}
 use Rattle.image.specs.Save.{progressBytes, saved}
@@ -16,8 +16,9 @@ places s = refl
 
 pub commands :
     (r v : ℕ)
-    → map progressBytes (Idle ∷ Opened ∷ Addressed ∷ Register r ∷ Data r v ∷ Again r ∷ Reading v ∷ [])
-    ≡ (0 ∷ 0 ∷ 0 ∷ []) ∷ (1 ∷ 0 ∷ 0 ∷ []) ∷ (2 ∷ 0 ∷ 0 ∷ []) ∷ (3 ∷ r ∷ 0 ∷ []) ∷ (4 ∷ r ∷ v ∷ []) ∷ (5 ∷ r ∷ 0 ∷ []) ∷ (6 ∷ v ∷ 0 ∷ []) ∷ []
+    → map progressBytes (Idle ∷ Opened ∷ Addressed ∷ Register r ∷ Data r v ∷ Again r ∷ Reading v ∷ Writing r ∷ Sending r v ∷ [])
+    ≡ (0 ∷ 0 ∷ 0 ∷ []) ∷ (1 ∷ 0 ∷ 0 ∷ []) ∷ (2 ∷ 0 ∷ 0 ∷ []) ∷ (3 ∷ r ∷ 0 ∷ []) ∷ (4 ∷ r ∷ v ∷ []) ∷ (5 ∷ r ∷ 0 ∷ []) ∷ (6 ∷ v ∷ 0 ∷ [])
+    ∷ (7 ∷ r ∷ 0 ∷ []) ∷ (8 ∷ r ∷ v ∷ []) ∷ []
 unfolding progressBytes
 commands r v = refl
 

@@ -1,31 +1,37 @@
--- A record's arrays keep their lengths, whatever word comes: each rule makes lists of as many elements. Assumes nothing.
+-- A record's arrays keep their lengths, whatever word comes and whatever kind is named: each rule makes lists of as many elements.
+-- Assumes nothing.
 use Prim.Native.Nat.{ℕ}
 use mathlib.Core.Path.{_≡_, refl}
-use mathlib.Core.List.{List, [], _∷_}
+use mathlib.Core.List.{List}
 use lib.Dec.{eqb}
 use lib.ListN.{length}
+use Rattle.second.specs.Record.{fresh, reset}
+use Rattle.second.specs.Once.{subsystemWritten, formFactorWritten, sfrWritten}
+use Rattle.second.specs.declared.Second.{Second}
 use Rattle.bay.specs.Record.{emptyBay, resetBay}
 use Rattle.bay.specs.Debounce.{sampledBay}
 use Rattle.bay.specs.Moves.{movedTo, movedBay, tickedBay}
-use Rattle.bay.specs.Registers.{bstrWritten, controlledBay}
+use Rattle.bay.specs.Registers.{bstrWritten, controlledBay, unlockedBay}
 use Rattle.bay.specs.declared.Bay.{Bay}
 use Rattle.bay.proofs.Taut.{pick}
-use Rattle.machine.specs.Record.{bayAt, bayIn, placed, withBay, isOpen, freshMachine, hides}
-use Rattle.machine.specs.Registers.{settingOf, dbccrStored, dbccrWrite, letrWrite, waitWrite, bstrWrite, bcerWrite, written}
-use Rattle.machine.specs.Acts.{resetTo, pinsTo, tickTo, does}
-use Rattle.machine.specs.Kept.{Kept}
+use Rattle.machine.specs.Record.{bayAt, bayIn, placed, withBay, isOpen, freshMachine}
+use Rattle.machine.specs.Setting.{hides, settingOf}
+use Rattle.machine.specs.Registers.{dbccrStored, dbccrWrite, bstrWrite, bcerWrite}
+use Rattle.machine.specs.FirstKind.{letrWrite, waitWrite}
+use Rattle.machine.specs.SecondKind.{subsystemWrite, formFactorWrite, sfrWrite}
+use Rattle.machine.specs.InForce.{written}
+use Rattle.machine.specs.Acts.{resetAs, nameTo, pinsTo, tickTo, does}
 use Rattle.machine.specs.declared.Machine.{Machine}
 use Rattle.machine.specs.declared.Act.{Act}
-use Rattle.machine.specs.declared.Act.the-variants.{Write, Pins, Tick}
+use Rattle.machine.specs.declared.Act.the-variants.{Write, Read, Pins, Tick, Reset, Name}
 use Rattle.machine.proofs.Bays.{each}
 use Rattle.machine.proofs.Addresses.{by-address}
 use Rattle.machine.proofs.After.{after-act}
 use Rattle.dock.specs.Record.{freshController}
-use Rattle.dock.specs.Step.{stepOf}
-use Rattle.dock.specs.Run.{after}
+use Rattle.dock.specs.Run.{Call, afterCalls}
 use Rattle.dock.specs.declared.Controller.{Controller}
-use Rattle.dock.proofs.Kept.{step-keeps, run-keeps}
-use Rattle.image.specs.Shape.{ShapedBay, Shaped}
+use Rattle.dock.proofs.Every.{every-list}
+use Rattle.image.specs.Shape.{ShapedBay, ShapedSecond, Shaped}
 
 -- ---- each rule of a bay
 
@@ -50,51 +56,101 @@ module _ (b : Bay) (h : ShapedBay b) where
   unfolding bstrWritten
   bstr-shaped v = record { levels = h .levels; accepted = h .accepted; counts = h .counts }
 
+  unlocked-shaped : ShapedBay (unlockedBay b)
+  unfolding unlockedBay
+  unlocked-shaped = record { levels = h .levels; accepted = h .accepted; counts = h .counts }
+
   bcer-shaped : (hides : _) (c : _) (s : _) → ShapedBay (controlledBay hides c s b)
   unfolding controlledBay
   bcer-shaped hides c s = record { levels = h .levels; accepted = h .accepted; counts = h .counts }
 
+-- ---- each write of the second kind's own registers, and a RESET of them
+
+own-fresh : ShapedSecond fresh
+unfolding fresh
+own-fresh = record { subsystem = refl; subsystem-written = refl; form-factors = refl; form-factors-written = refl }
+
+module _ (r : Second) (h : ShapedSecond r) where
+  own-reset : ShapedSecond (reset r)
+  unfolding reset
+  own-reset = record { subsystem = h .subsystem; subsystem-written = refl; form-factors = h .form-factors; form-factors-written = h .form-factors-written }
+
+  subsystem-shaped : (k v : ℕ) → ShapedSecond (subsystemWritten k v r)
+  unfolding subsystemWritten
+  subsystem-shaped k v =
+      record { subsystem = refl; subsystem-written = refl; form-factors = h .form-factors; form-factors-written = h .form-factors-written }
+
+  form-factor-shaped : (i v : ℕ) → ShapedSecond (formFactorWritten i v r)
+  unfolding formFactorWritten
+  form-factor-shaped i v =
+      record { subsystem = h .subsystem; subsystem-written = h .subsystem-written; form-factors = refl; form-factors-written = refl }
+
+  sfr-shaped : (v : ℕ) → ShapedSecond (sfrWritten v r)
+  unfolding sfrWritten
+  sfr-shaped v =
+      record { subsystem = h .subsystem; subsystem-written = h .subsystem-written; form-factors = h .form-factors; form-factors-written = h .form-factors-written }
+
 -- ---- each act
+
+-- What a write makes of the rest of a machine.
+abbrev Rest : Machine → Type 0
+Rest n = (length (n .bays) ≡ 2) × ShapedSecond (n .second)
 
 module _ (m : Machine) (h : Shaped m) where
   bays-shaped : (a : Act) (i : ℕ) → ShapedBay (bayAt (does a m) i)
   bays-shaped a i =
       let shaped = h .bays i in
-      after-act ShapedBay m i reset-shaped empty-shaped (sampled-shaped (bayAt m i) shaped) (ticked-shaped (bayAt m i) shaped (hides m) (settingOf m))
-      (bstr-shaped (bayAt m i) shaped) (λ v. bcer-shaped (bayAt m i) shaped (hides m) _ (settingOf m)) shaped a
+      after-act ShapedBay m i
+      record {
+        by-reset = reset-shaped;
+        by-closing = empty-shaped;
+        by-pins = sampled-shaped (bayAt m i) shaped;
+        by-tick = ticked-shaped (bayAt m i) shaped (hides m) (settingOf m);
+        by-bstr = bstr-shaped (bayAt m i) shaped;
+        by-bcer = λ v. bcer-shaped (bayAt m i) shaped (hides m) _ (settingOf m);
+        by-unlocking = unlocked-shaped (bayAt m i) shaped;
+        untouched = shaped;
+      }
+      a
 
-  two-bays : (a v : ℕ) → length (written a v m .bays) ≡ 2
-  unfolding dbccrWrite dbccrStored letrWrite waitWrite bstrWrite bcerWrite placed
-  two-bays a v =
-      by-address Two a v m (pick Two (m .shared .«dbccr_written») (λ _. h .two) (λ _. refl)) (h .two) (h .two)
-      (λ i. pick Two (isOpen m i) (λ _. placed-two i _) (λ _. h .two)) (λ i. pick Two (isOpen m i) (λ _. placed-two i _) (λ _. h .two)) (h .two)
-    where
-      Two : Machine → Type 0
-      Two n = length (n .bays) ≡ 2
+  rest : Rest m
+  rest = (h .two, h .second)
 
-      placed-two : (i : ℕ) (b : Bay) → Two (withBay i b m)
-      placed-two i b = pick (λ (l : List Bay). length l ≡ 2) (eqb i 0) (λ _. refl) (λ _. refl)
+  placed-rest : (i : ℕ) (b : Bay) → Rest (withBay i b m)
+  unfolding placed
+  placed-rest i b = (pick (λ (l : List Bay). length l ≡ 2) (eqb i 0) (λ _. refl) (λ _. refl), h .second)
 
-from-two : (m : Machine) (b c : Bay) → m .bays ≡ b ∷ c ∷ [] → ShapedBay b → ShapedBay c → Shaped m
-unfolding bayIn
-from-two m b c e p q = record { two = rw e refl; bays = each ShapedBay (m .bays) (rw e p) (rw e q) }
+  written-rest : (a v : ℕ) → Rest (written a v m)
+  unfolding dbccrWrite dbccrStored letrWrite waitWrite bstrWrite bcerWrite subsystemWrite formFactorWrite sfrWrite
+  written-rest a v =
+      by-address Rest a v m
+      record {
+        dbccr = pick Rest (m .shared .«dbccr_written») (λ _. rest) (λ _. (refl, h .second));
+        bstr = λ i. pick Rest (isOpen m i) (λ _. placed-rest i _) (λ _. rest);
+        bcer = λ i. pick Rest (isOpen m i) (λ _. placed-rest i _) (λ _. rest);
+        letr = rest;
+        wait = rest;
+        subsystem = λ k. (h .two, subsystem-shaped (m .second) (h .second) k v);
+        form-factor = λ i. pick Rest (isOpen m i) (λ _. (h .two, form-factor-shaped (m .second) (h .second) i v)) (λ _. rest);
+        sfr = pick Rest (m .second .«sfr_written») (λ _. rest) (λ _. (refl, sfr-shaped (m .second) (h .second) v));
+        none = rest;
+      }
 
-shaped-kept : Kept Shaped
-unfolding resetTo does pinsTo tickTo
-shaped-kept =
-    record {
-      by-reset = λ straps levels short l. from-two (resetTo straps levels short) _ _ refl (reset-shaped _ _) (reset-shaped _ _);
-      by-write = λ a v m t h. record { two = two-bays m h a v; bays = bays-shaped m h (Write a v) };
-      by-pins = λ levels m t h. record { two = refl; bays = bays-shaped m h (Pins levels) };
-      by-tick = λ m t h. record { two = refl; bays = bays-shaped m h Tick };
-    }
+act-shaped : (a : Act) (m : Machine) → Shaped m → Shaped (does a m)
+unfolding does resetAs nameTo pinsTo tickTo
+act-shaped (Write a v) m h = let r = written-rest m h a v in record { two = r .0; bays = bays-shaped m h (Write a v); second = r .1 }
+act-shaped (Read a) m h = h
+act-shaped (Pins levels) m h = record { two = refl; bays = bays-shaped m h (Pins levels); second = h .second }
+act-shaped Tick m h = record { two = refl; bays = bays-shaped m h Tick; second = h .second }
+act-shaped (Reset straps levels short) m h =
+    record { two = refl; bays = bays-shaped m h (Reset straps levels short); second = own-reset (m .second) (h .second) }
+act-shaped (Name k) m h = record { two = h .two; bays = bays-shaped m h (Name k); second = h .second }
+
+-- ---- fresh, and after any calls
 
 pub fresh-shaped : Shaped (freshController .machine)
-unfolding freshController freshMachine
-fresh-shaped = from-two freshMachine _ _ refl empty-shaped empty-shaped
+unfolding freshController freshMachine bayIn
+fresh-shaped = record { two = refl; bays = each ShapedBay (freshMachine .bays) empty-shaped empty-shaped; second = own-fresh }
 
-pub step-shaped : (s : Controller) (w : ℕ) → Shaped (s .machine) → Shaped (stepOf s w .controller .machine)
-step-shaped s w h = step-keeps Shaped shaped-kept s w h
-
-pub run-shaped : (s : Controller) (ws : List ℕ) → Shaped (s .machine) → Shaped (after s ws .machine)
-run-shaped s ws h = run-keeps Shaped shaped-kept s ws h
+pub calls-shaped : (s : Controller) (cs : List Call) → Shaped (s .machine) → Shaped (afterCalls s cs .machine)
+calls-shaped = every-list Shaped act-shaped

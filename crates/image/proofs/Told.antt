@@ -1,5 +1,5 @@
 -- The place that a verdict names where a byte is no flag: that of the first flag above 1. Assumes nothing.
-use Prim.Native.Nat.{ℕ, zero, suc, _+_, _<_, _≤_}
+use Prim.Native.Nat.{ℕ, zero, suc, _+_, _-_, _<_, _≤_}
 use native.Mathlib.Omega.{arith}
 use mathlib.Core.Path.{_≡_, refl, ap, sym, _∙_}
 use mathlib.Core.Bool.{Bool, true, false, cond, _&&_, _||_, true≢false, false≢true}
@@ -9,7 +9,7 @@ use lib.ListN.{length, getD, drop}
 use lib.Seq.{getD-take, getD-drop}
 use borrow.Author.Tests.{leb-true, leb-false, eqb-true}
 use Rattle.bay.proofs.Taut.{pick}
-use Rattle.image.specs.Layout.{LAYOUT, BYTES, PROGRESS}
+use Rattle.image.specs.Layout.{LAYOUT, BYTES, FLAGS, NUMBERS, PROGRESS}
 use Rattle.image.specs.Load.{byteAt, flagBytes, allFlags, firstOver, progressVerdict, sizedVerdict, verdictOn}
 use Rattle.image.specs.declared.Verdict.{Verdict}
 use Rattle.image.specs.declared.Verdict.the-variants.{Whole, WrongLength, UnknownVersion, NotAFlag, UnknownProgress, NotUsed}
@@ -64,14 +64,14 @@ names-flag (NotUsed i) = false
 no-flag : (which a b : ℕ) → names-flag (progressVerdict which a b) ≡ false
 unfolding progressVerdict names-flag
 no-flag which a b =
-    pick (λ v. names-flag v ≡ false) (leb which 6)
+    pick (λ v. names-flag v ≡ false) (leb which 8)
     (λ w. pick (λ v. names-flag v ≡ false) (leb 3 which || eqb a 0)
-    (λ f. pick (λ v. names-flag v ≡ false) (eqb which 4 || eqb b 0) (λ s. refl) (λ s. refl)) (λ f. refl))
+    (λ f. pick (λ v. names-flag v ≡ false) (eqb which 4 || eqb which 8 || eqb b 0) (λ s. refl) (λ s. refl)) (λ f. refl))
     (λ w. refl)
 
 -- A byte of the flags, at its place among all.
-at-flags : (bytes : List ℕ) (i : ℕ) → i < 31 → byteAt (flagBytes bytes) i ≡ byteAt bytes (1 + i)
-at-flags bytes i h = getD-take 31 (drop 1 bytes) i 0 h ∙ getD-drop 1 bytes i 0
+at-flags : (bytes : List ℕ) (i : ℕ) → i < NUMBERS - FLAGS → byteAt (flagBytes bytes) i ≡ byteAt bytes (1 + i)
+at-flags bytes i h = getD-take (NUMBERS - FLAGS) (drop 1 bytes) i 0 h ∙ getD-drop 1 bytes i 0
 
 pub flag-told : (bytes : List ℕ) (i : ℕ) → verdictOn bytes ≡ NotAFlag i → 1 < byteAt bytes i
 unfolding verdictOn sizedVerdict place names-flag
@@ -87,6 +87,6 @@ flag-told bytes i e =
     go true l true true q e = absurd (false≢true (sym (no-flag (byteAt bytes PROGRESS) (byteAt bytes (PROGRESS + 1)) (byteAt bytes (PROGRESS + 2))) ∙ ap names-flag e))
     go true l true false q e =
         let t = first-told (flagBytes bytes) q in
-        let within : firstOver (flagBytes bytes) < 31 = omega (arith, t .within, flag-bytes-long bytes (eqb-true _ BYTES l)) in
+        let within : firstOver (flagBytes bytes) < NUMBERS - FLAGS = omega (arith, t .within, flag-bytes-long bytes (eqb-true _ BYTES l)) in
         let here : byteAt bytes (1 + firstOver (flagBytes bytes)) ≡ byteAt bytes i = ap (λ v. byteAt bytes (place v)) e in
         omega (arith, t .above, at-flags bytes (firstOver (flagBytes bytes)) within, here)

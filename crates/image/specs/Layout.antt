@@ -4,17 +4,17 @@ use Prim.Native.Nat.{ℕ}
 
 -- The version rises whenever a byte, what it may hold or the length changes.
 abbrev pub LAYOUT : ℕ
-LAYOUT = 3
+LAYOUT = 4
 
 abbrev pub BYTES : ℕ
-BYTES = 54
+BYTES = 74
 
 -- Where the flags begin, where they end and the numbers begin, and where these end and the command in progress begins.
 abbrev pub FLAGS : ℕ
 FLAGS = 1
 
 abbrev pub NUMBERS : ℕ
-NUMBERS = 32
+NUMBERS = 41
 
 abbrev pub PROGRESS : ℕ
-PROGRESS = 51
+PROGRESS = 71

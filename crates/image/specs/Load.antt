@@ -1,11 +1,13 @@
 -- What bytes are: no image, or the image of a state, fit or not.
-use Prim.Native.Nat.{ℕ, _+_, _-_}
+use Prim.Native.Nat.{ℕ, _+_, _-_, _*_}
 use mathlib.Core.Bool.{Bool, true, false, cond, _&&_, _||_}
 use mathlib.Core.List.{List, [], _∷_, map}
 use lib.Dec.{eqb, leb}
 use lib.ListN.{length, getD, take, drop}
 use Rattle.bus.specs.declared.Progress.{Progress}
-use Rattle.bus.specs.declared.Progress.the-variants.{Idle, Opened, Addressed, Register, Data, Again, Reading}
+use Rattle.bus.specs.declared.Progress.the-variants.{Idle, Opened, Addressed, Register, Data, Again, Reading, Writing, Sending}
+use Rattle.kind.specs.Kind.{kindBy}
+use Rattle.second.specs.declared.Second.{Second}
 use Rattle.bay.specs.declared.Bay.{Bay}
 use Rattle.machine.specs.declared.Machine.{Machine}
 use Rattle.dock.specs.Record.{freshController}
@@ -37,12 +39,12 @@ unfoldable pub firstOver : List ℕ → ℕ
 firstOver [] = 0
 firstOver (b ∷ bs) = cond (leb b 1) (1 + firstOver bs) 0
 
--- From a register byte on (3) a command in progress holds one byte, and with a data byte (4) two; 6 is the last.
+-- From a register byte on (3) a command in progress holds one byte; with a data byte (4), or sending (8), two; 8 is the last.
 unfoldable pub progressVerdict : ℕ → ℕ → ℕ → Verdict
 progressVerdict which first second =
-    cond (leb which 6)
+    cond (leb which 8)
     (cond (leb 3 which || eqb first 0)
-    (cond (eqb which 4 || eqb second 0) Whole (NotUsed (PROGRESS + 2)))
+    (cond (eqb which 4 || eqb which 8 || eqb second 0) Whole (NotUsed (PROGRESS + 2)))
     (NotUsed (PROGRESS + 1)))
     UnknownProgress
 
@@ -75,7 +77,11 @@ isImage bytes = whole (verdictOn bytes)
 abbrev pub isSet : ℕ → Bool
 isSet b = eqb b 1
 
--- A bay from its fourteen flags and its seven numbers.
+-- A number of two bytes, the high one first.
+abbrev pub wide : ℕ → ℕ → ℕ
+wide high low = high * 256 + low
+
+-- A bay from its fourteen flags and its nine numbers.
 abbrev pub bayBy : List Bool → List ℕ → Bay
 bayBy flags numbers =
     record {
@@ -95,8 +101,26 @@ bayBy flags numbers =
             «remevtwak_en» = flag 12;
             «pwr_ctl» = flag 13;
           };
-      pulse = number 5;
-      wait = number 6;
+      pulse = wide (number 5) (number 6);
+      wait = wide (number 7) (number 8);
+    }
+  where
+    flag : ℕ → Bool
+    flag i = getD flags i false
+
+    number : ℕ → ℕ
+    number i = getD numbers i 0
+
+-- The second kind's own registers, from their seven flags and seven numbers.
+abbrev pub secondBy : List Bool → List ℕ → Second
+secondBy flags numbers =
+    record {
+      subsystem = number 0 ∷ number 1 ∷ number 2 ∷ number 3 ∷ [];
+      «subsystem_written» = flag 0 ∷ flag 1 ∷ flag 2 ∷ flag 3 ∷ [];
+      «form_factors» = number 4 ∷ number 5 ∷ [];
+      «form_factors_written» = flag 4 ∷ flag 5 ∷ [];
+      sfr = number 6;
+      «sfr_written» = flag 6;
     }
   where
     flag : ℕ → Bool
@@ -111,20 +135,24 @@ machineBy flags numbers =
     record {
       started = getD flags 0 false;
       straps = getD numbers 0 0;
+      kind = kindBy (getD flags 1 false);
+      named = kindBy (getD flags 2 false);
       shared =
           record {
-            «dbccr_written» = getD flags 1 false;
-            seclock = getD flags 2 false;
+            «dbccr_written» = getD flags 3 false;
+            seclock = getD flags 4 false;
             «bay_count» = getD numbers 1 0;
             «lock_time» = getD numbers 2 0;
             «wait_time» = getD numbers 3 0;
           };
+      second = secondBy (take 7 (drop 5 flags)) (take 7 (drop 5 numbers));
       phase = getD numbers 4 0;
-      bays = bayBy (take 14 (drop 3 flags)) (take 7 (drop 5 numbers)) ∷ bayBy (drop 17 flags) (drop 12 numbers) ∷ [];
+      bays = bayBy (take 14 (drop 12 flags)) (take 9 (drop 12 numbers)) ∷ bayBy (drop 26 flags) (drop 21 numbers) ∷ [];
     }
 
 abbrev pub progressBy : ℕ → ℕ → ℕ → Progress
-progressBy which first second = getD (Idle ∷ Opened ∷ Addressed ∷ Register first ∷ Data first second ∷ Again first ∷ Reading first ∷ []) which Idle
+progressBy which first second =
+    getD (Idle ∷ Opened ∷ Addressed ∷ Register first ∷ Data first second ∷ Again first ∷ Reading first ∷ Writing first ∷ Sending first second ∷ []) which Idle
 
 abbrev pub machineIn : List ℕ → Machine
 machineIn bytes = machineBy (map isSet (flagBytes bytes)) (numbersIn bytes)

@@ -4,19 +4,28 @@ ghost use mathlib.Core.List.{map};
 ghost use lib.ListN.{length};
 ghost use Prim.Native.Nat.{_≤_};
 ghost use Rattle.image.specs.Layout.{BYTES};
-ghost use Rattle.image.specs.Load.{isSet, bayBy, machineIn, progressBy, allFlags, firstOver, progressVerdict, sizedVerdict, loadSized, loadOf};
+ghost use Rattle.image.specs.Load.{isSet, wide, bayBy, secondBy, machineIn, progressBy, allFlags, firstOver, progressVerdict, sizedVerdict, loadSized, loadOf};
 use crate::Loaded;
 use crate::Verdict;
 use bay::Bay;
 use bay::Control;
 use bus::Progress;
 use dock::Controller;
+use kind::Kind;
 use machine::Machine;
 use machine::Shared;
+use second::Second;
+
+// A number of two bytes.
+fn wide(high: u8, low: u8) -> u16
+    ensures { λ r. ⌜ r ≡ wide high low ⌝ }
+{
+    high as u16 * 256 + low as u16
+}
 
 fn bay_from(flags: &[u8], numbers: &[u8]) -> Bay
     requires { ⌜ length (now flags) ≡ 14 ⌝ }
-    requires { ⌜ length (now numbers) ≡ 7 ⌝ }
+    requires { ⌜ length (now numbers) ≡ 9 ⌝ }
     ensures { λ r. ⌜ r ≡ bayBy (map isSet (now (flags .entry))) (now (numbers .entry)) ⌝ }
 {
     Bay {
@@ -47,8 +56,24 @@ fn bay_from(flags: &[u8], numbers: &[u8]) -> Bay
             remevtwak_en: flags[crate::REMEVTWAK_EN] == 1,
             pwr_ctl: flags[crate::PWR_CTL] == 1,
         },
-        pulse: numbers[crate::PULSE],
-        wait: numbers[crate::WAIT],
+        pulse: wide(numbers[crate::PULSE], numbers[crate::PULSE + 1]),
+        wait: wide(numbers[crate::WAIT], numbers[crate::WAIT + 1]),
+    }
+}
+
+// The flags of the second kind's own registers, and their numbers, in the image's order.
+fn second_from(flags: &[u8], numbers: &[u8]) -> Second
+    requires { ⌜ length (now flags) ≡ 7 ⌝ }
+    requires { ⌜ length (now numbers) ≡ 7 ⌝ }
+    ensures { λ r. ⌜ r ≡ secondBy (map isSet (now (flags .entry))) (now (numbers .entry)) ⌝ }
+{
+    Second {
+        subsystem: [numbers[0], numbers[1], numbers[2], numbers[3]],
+        subsystem_written: [flags[0] == 1, flags[1] == 1, flags[2] == 1, flags[3] == 1],
+        form_factors: [numbers[4], numbers[5]],
+        form_factors_written: [flags[4] == 1, flags[5] == 1],
+        sfr: numbers[6],
+        sfr_written: flags[6] == 1,
     }
 }
 
@@ -56,17 +81,23 @@ fn machine_in(image: &[u8]) -> Machine
     requires { ⌜ length (now image) ≡ BYTES ⌝ }
     ensures { λ r. ⌜ r ≡ machineIn (now (image .entry)) ⌝ }
 {
-    let first = bay_from(
+    let bay_0 = bay_from(
         &image[crate::FLAGS_0..crate::FLAGS_1],
         &image[crate::NUMBERS_0..crate::NUMBERS_1],
     );
-    let second = bay_from(
+    let bay_1 = bay_from(
         &image[crate::FLAGS_1..crate::STRAPS],
         &image[crate::NUMBERS_1..crate::PROGRESS],
+    );
+    let second = second_from(
+        &image[crate::SUBSYSTEM_WRITTEN..crate::FLAGS_0],
+        &image[crate::SUBSYSTEM..crate::NUMBERS_0],
     );
     Machine {
         started: image[crate::STARTED] == 1,
         straps: image[crate::STRAPS],
+        kind: Kind::by(image[crate::KIND] == 1),
+        named: Kind::by(image[crate::NAMED] == 1),
         shared: Shared {
             dbccr_written: image[crate::DBCCR_WRITTEN] == 1,
             seclock: image[crate::SECLOCK] == 1,
@@ -74,8 +105,9 @@ fn machine_in(image: &[u8]) -> Machine
             lock_time: image[crate::LOCK_TIME],
             wait_time: image[crate::WAIT_TIME],
         },
+        second,
         phase: image[crate::PHASE],
-        bays: [first, second],
+        bays: [bay_0, bay_1],
     }
 }
 
@@ -92,6 +124,11 @@ fn progress_from(which: u8, first: u8, second: u8) -> Progress
         },
         crate::AGAIN => Progress::Again(first),
         crate::READING => Progress::Reading(first),
+        crate::WRITING => Progress::Writing(first),
+        crate::SENDING => Progress::Sending {
+            register: first,
+            value: second,
+        },
         _ => Progress::Idle,
     }
 }
@@ -124,13 +161,13 @@ fn first_over(flags: &[u8]) -> usize
     i
 }
 
-// From a register byte on a command holds one byte, and with a data byte two.
+// From a register byte on a command holds one byte; with a data byte, or sending, two.
 fn progress_verdict(which: u8, first: u8, second: u8) -> Verdict
     ensures { λ r. ⌜ r ≡ progressVerdict which first second ⌝ }
 {
-    if which <= crate::READING {
+    if which <= crate::SENDING {
         if (crate::REGISTER <= which) | (first == 0) {
-            if (which == crate::DATA) | (second == 0) {
+            if (which == crate::DATA) | (which == crate::SENDING) | (second == 0) {
                 return Verdict::Whole;
             }
             return Verdict::NotUsed(crate::SECOND);

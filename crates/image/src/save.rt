@@ -1,10 +1,17 @@
 // A state as bytes, in the layout's order.
 ghost use mathlib.Core.Path.{_≡_};
 ghost use Rattle.dock.specs.Record.{freshController};
-ghost use Rattle.image.specs.Save.{progressBytes, saved};
+ghost use Rattle.image.specs.Save.{twoBytes, progressBytes, saved};
 use bay::Bay;
 use bus::Progress;
 use dock::Controller;
+
+// A number of two bytes, the high one first.
+fn two_bytes(number: u16) -> [u8; 2]
+    ensures { λ r. ⌜ r ≡ twoBytes number ⌝ }
+{
+    [(number / 256) as u8, (number % 256) as u8]
+}
 
 // Which command in progress, and the bytes that it holds.
 fn progress_bytes(progress: Progress) -> [u8; 3]
@@ -18,6 +25,8 @@ fn progress_bytes(progress: Progress) -> [u8; 3]
         Progress::Data { register, value } => [crate::DATA, register, value],
         Progress::Again(register) => [crate::AGAIN, register, 0],
         Progress::Reading(value) => [crate::READING, value, 0],
+        Progress::Writing(register) => [crate::WRITING, register, 0],
+        Progress::Sending { register, value } => [crate::SENDING, register, value],
     }
 }
 
@@ -49,64 +58,93 @@ pub fn save(controller: Controller) -> [u8; crate::BYTES]
     ensures { λ r. ⌜ r ≡ saved controller ⌝ }
 {
     let machine = controller.machine;
+    let kind = machine.kind;
+    let named = machine.named;
     let shared = machine.shared;
+    let second = machine.second;
     let bays = machine.bays;
-    let first = bays[0];
-    let second = bays[1];
+    let bay_0 = bays[0];
+    let bay_1 = bays[1];
     let command = controller.progress;
+    let second_in_force = kind.is_second();
+    let second_named = named.is_second();
+    let pulse_0 = two_bytes(bay_0.pulse);
+    let wait_0 = two_bytes(bay_0.wait);
+    let pulse_1 = two_bytes(bay_1.pulse);
+    let wait_1 = two_bytes(bay_1.wait);
     let progress = progress_bytes(command);
     [
         crate::LAYOUT,
         machine.started as u8,
+        second_in_force as u8,
+        second_named as u8,
         shared.dbccr_written as u8,
         shared.seclock as u8,
-        first.levels[Bay::N1394] as u8,
-        first.levels[Bay::NUSB] as u8,
-        first.levels[Bay::NREMREQ] as u8,
-        first.accepted[Bay::N1394] as u8,
-        first.accepted[Bay::NUSB] as u8,
-        first.accepted[Bay::NREMREQ] as u8,
-        first.n_sl as u8,
-        first.remreq_sts as u8,
-        first.devstschg as u8,
-        first.control.lock_ctl as u8,
-        first.control.remreq_en as u8,
-        first.control.devstschg_en as u8,
-        first.control.remevtwak_en as u8,
-        first.control.pwr_ctl as u8,
-        second.levels[Bay::N1394] as u8,
-        second.levels[Bay::NUSB] as u8,
-        second.levels[Bay::NREMREQ] as u8,
-        second.accepted[Bay::N1394] as u8,
-        second.accepted[Bay::NUSB] as u8,
-        second.accepted[Bay::NREMREQ] as u8,
-        second.n_sl as u8,
-        second.remreq_sts as u8,
-        second.devstschg as u8,
-        second.control.lock_ctl as u8,
-        second.control.remreq_en as u8,
-        second.control.devstschg_en as u8,
-        second.control.remevtwak_en as u8,
-        second.control.pwr_ctl as u8,
+        second.subsystem_written[0] as u8,
+        second.subsystem_written[1] as u8,
+        second.subsystem_written[2] as u8,
+        second.subsystem_written[3] as u8,
+        second.form_factors_written[0] as u8,
+        second.form_factors_written[1] as u8,
+        second.sfr_written as u8,
+        bay_0.levels[Bay::N1394] as u8,
+        bay_0.levels[Bay::NUSB] as u8,
+        bay_0.levels[Bay::NREMREQ] as u8,
+        bay_0.accepted[Bay::N1394] as u8,
+        bay_0.accepted[Bay::NUSB] as u8,
+        bay_0.accepted[Bay::NREMREQ] as u8,
+        bay_0.n_sl as u8,
+        bay_0.remreq_sts as u8,
+        bay_0.devstschg as u8,
+        bay_0.control.lock_ctl as u8,
+        bay_0.control.remreq_en as u8,
+        bay_0.control.devstschg_en as u8,
+        bay_0.control.remevtwak_en as u8,
+        bay_0.control.pwr_ctl as u8,
+        bay_1.levels[Bay::N1394] as u8,
+        bay_1.levels[Bay::NUSB] as u8,
+        bay_1.levels[Bay::NREMREQ] as u8,
+        bay_1.accepted[Bay::N1394] as u8,
+        bay_1.accepted[Bay::NUSB] as u8,
+        bay_1.accepted[Bay::NREMREQ] as u8,
+        bay_1.n_sl as u8,
+        bay_1.remreq_sts as u8,
+        bay_1.devstschg as u8,
+        bay_1.control.lock_ctl as u8,
+        bay_1.control.remreq_en as u8,
+        bay_1.control.devstschg_en as u8,
+        bay_1.control.remevtwak_en as u8,
+        bay_1.control.pwr_ctl as u8,
         machine.straps,
         shared.bay_count,
         shared.lock_time,
         shared.wait_time,
         machine.phase,
-        first.counts[Bay::N1394],
-        first.counts[Bay::NUSB],
-        first.counts[Bay::NREMREQ],
-        first.state,
-        first.control.request,
-        first.pulse,
-        first.wait,
-        second.counts[Bay::N1394],
-        second.counts[Bay::NUSB],
-        second.counts[Bay::NREMREQ],
-        second.state,
-        second.control.request,
-        second.pulse,
-        second.wait,
+        second.subsystem[0],
+        second.subsystem[1],
+        second.subsystem[2],
+        second.subsystem[3],
+        second.form_factors[0],
+        second.form_factors[1],
+        second.sfr,
+        bay_0.counts[Bay::N1394],
+        bay_0.counts[Bay::NUSB],
+        bay_0.counts[Bay::NREMREQ],
+        bay_0.state,
+        bay_0.control.request,
+        pulse_0[0],
+        pulse_0[1],
+        wait_0[0],
+        wait_0[1],
+        bay_1.counts[Bay::N1394],
+        bay_1.counts[Bay::NUSB],
+        bay_1.counts[Bay::NREMREQ],
+        bay_1.state,
+        bay_1.control.request,
+        pulse_1[0],
+        pulse_1[1],
+        wait_1[0],
+        wait_1[1],
         progress[0],
         progress[1],
         progress[2],

@@ -11,6 +11,7 @@ use Rattle.link.proofs.replay.dock_replay.Reads as replay-reads
 use Rattle.link.proofs.held.dock_begin.Reads as begin-reads
 use Rattle.link.proofs.held.dock_step.Reads as step-reads
 use Rattle.link.proofs.held.dock_batch.Reads as batch-reads
+use Rattle.link.proofs.held.dock_name_kind.Reads as name-reads
 use Rattle.link.proofs.held.dock_reading.Reads as reading-reads
 use Rattle.link.proofs.held.dock_outputs.Reads as outputs-reads
 
@@ -49,6 +50,12 @@ pub batch-determined :
     → (r ≡ s) × (now left ≡ now left′) × (now written ≡ now written′)
 batch-determined κs state words records r s left left′ written written′ p q =
     (p .0 ∙ sym (q .0), p .1 .0 ∙ sym (q .1 .0), p .1 .1 ∙ sym (q .1 .1))
+
+pub name-determined :
+    (κs : _) (state : RefT (List ℕ)) (n r s : ℕ) (left left′ : RefT (List ℕ))
+    → name-reads.Post κs (state, (n, tt)) r (left, (n, tt)) → name-reads.Post κs (state, (n, tt)) s (left′, (n, tt))
+    → (r ≡ s) × (now left ≡ now left′)
+name-determined κs state n r s left left′ p q = (p .0 ∙ sym (q .0), p .1 ∙ sym (q .1))
 
 pub reading-determined :
     (κs : _) (state : RefT (List ℕ)) (a r s : ℕ)

@@ -15,6 +15,7 @@ use Rattle.batch.proofs.Accepted.{as-it-came}
 use Rattle.batch.proofs.Outcome.{the-type}
 use Rattle.image.specs.Save.{saved}
 use Rattle.image.specs.Load.{isImage, stateIn}
+use Rattle.image.specs.Shape.{Octets}
 use Rattle.image.proofs.Whole.{image-whole}
 use Rattle.image.proofs.RoundTrip.{saved-loaded}
 use Rattle.link.specs.Held.{outcomeIn, batchedIn, recordsIn}
@@ -35,12 +36,12 @@ module _ (bytes ws buffer : List ℕ) where
     ran = rw (h, e) (refl, refl, refl)
 
     -- A batch that is refused leaves the bytes, since they are the image of the state.
-    pub ran-refused : T (among (tagOf the-type (r .outcome)) (1 ∷ 2 ∷ 3 ∷ [])) → Ran (r .outcome) bytes (bufferAfter (stateIn bytes) ws buffer)
+    pub ran-refused : Octets bytes → T (among (tagOf the-type (r .outcome)) (1 ∷ 2 ∷ 3 ∷ [])) → Ran (r .outcome) bytes (bufferAfter (stateIn bytes) ws buffer)
     unfolding batchOf
-    ran-refused t = (ran .0, back ∙ ran .1, ran .2)
+    ran-refused o t = (ran .0, back ∙ ran .1, ran .2)
       where
         same : r .controller ≡ stateIn bytes
         same = ap (λ (x : Batched). x .controller) e ∙ ap (λ o. stateBy o (stateIn bytes) ws) (sym (ap (λ (x : Batched). x .outcome) e)) ∙ as-it-came (r .outcome) t (stateIn bytes) ws buffer .0
 
         back : bytes ≡ saved (r .controller)
-        back = sym (saved-loaded bytes (image-whole bytes h)) ∙ ap saved (sym same)
+        back = sym (saved-loaded bytes o (image-whole bytes h)) ∙ ap saved (sym same)

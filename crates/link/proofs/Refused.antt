@@ -22,24 +22,25 @@ use Rattle.batch.specs.declared.Outcome.the-variants as outcome
 use Rattle.batch.proofs.Accepted.{refused-untouched, exactly as batch-exactly}
 use Rattle.image.specs.Save.{saved}
 use Rattle.image.specs.Load.{isImage, stateIn}
+use Rattle.image.specs.Shape.{Octets}
 use Rattle.image.proofs.Whole.{image-whole}
 use Rattle.image.proofs.RoundTrip.{saved-loaded}
 use Rattle.link.specs.Answer.{both}
 use Rattle.link.specs.Held.{begun, begunIn, answerIn, steppedIn, outcomeIn, batchedIn, recordsIn, readingIn, outputsIn}
 
 -- A state is begun exactly where its length is an image's; else the answer is refusal 1.
-pub begin-exactly : (n : ℕ) → ((begun n ≡ 0) ↔ (n ≡ 54)) × ((begun n ≡ 1 * 65536) ↔ (n ≢ 54))
+pub begin-exactly : (n : ℕ) → ((begun n ≡ 0) ↔ (n ≡ 74)) × ((begun n ≡ 1 * 65536) ↔ (n ≢ 74))
 unfolding begun
-begin-exactly n = go (eqb n 54) refl
+begin-exactly n = go (eqb n 74) refl
   where
-    go : (b : Bool) → eqb n 54 ≡ b → ((cond b (both 0 0) (both 1 0) ≡ 0) ↔ (n ≡ 54)) × ((cond b (both 0 0) (both 1 0) ≡ 1 * 65536) ↔ (n ≢ 54))
-    go true e = ((λ h. eqb-true n 54 e, λ h. refl), (λ h. absurd (omega (arith, h)), λ h. absurd (h (eqb-true n 54 e))))
-    go false e = ((λ h. absurd (omega (arith, h)), λ h. absurd (eqb-false n 54 e h)), (λ h. eqb-false n 54 e, λ h. refl))
+    go : (b : Bool) → eqb n 74 ≡ b → ((cond b (both 0 0) (both 1 0) ≡ 0) ↔ (n ≡ 74)) × ((cond b (both 0 0) (both 1 0) ≡ 1 * 65536) ↔ (n ≢ 74))
+    go true e = ((λ h. eqb-true n 74 e, λ h. refl), (λ h. absurd (omega (arith, h)), λ h. absurd (h (eqb-true n 74 e))))
+    go false e = ((λ h. absurd (omega (arith, h)), λ h. absurd (eqb-false n 74 e h)), (λ h. eqb-false n 74 e, λ h. refl))
 
 -- Only then are the bytes written: they are the image of a fresh controller; else they are as they came.
-pub begin-writes : (bytes : List ℕ) → (length bytes ≡ 54 → begunIn bytes ≡ saved freshController) × (length bytes ≢ 54 → begunIn bytes ≡ bytes)
+pub begin-writes : (bytes : List ℕ) → (length bytes ≡ 74 → begunIn bytes ≡ saved freshController) × (length bytes ≢ 74 → begunIn bytes ≡ bytes)
 unfolding begunIn
-begin-writes bytes = (λ h. rw (eq-eqb _ 54 h) refl, λ h. rw (ne-eqb _ 54 h) refl)
+begin-writes bytes = (λ h. rw (eq-eqb _ 74 h) refl, λ h. rw (ne-eqb _ 74 h) refl)
 
 module _ (bytes : List ℕ) where
   -- What holds of bytes that are an image, and of any others, holds of all.
@@ -52,12 +53,12 @@ module _ (bytes : List ℕ) where
 
   -- ---- a refused call leaves every byte as it came
 
-  pub step-untouched : (w : ℕ) → refusalOf (answerIn bytes w) ≢ 0 → steppedIn bytes w ≡ bytes
+  pub step-untouched : Octets bytes → (w : ℕ) → refusalOf (answerIn bytes w) ≢ 0 → steppedIn bytes w ≡ bytes
   unfolding answerIn steppedIn
-  step-untouched w =
+  step-untouched o w =
       by-image
       (λ b. refusalOf (cond b (stepOf (stateIn bytes) w .answer) answer.Unfit) ≢ 0 → cond b (saved (stepOf (stateIn bytes) w .controller)) bytes ≡ bytes)
-      (λ i n. ap saved (refused-unchanged (stateIn bytes) w n) ∙ saved-loaded bytes (image-whole bytes i))
+      (λ i n. ap saved (refused-unchanged (stateIn bytes) w n) ∙ saved-loaded bytes o (image-whole bytes i))
       (λ i n. refl)
 
   pub record Untouched (ws buffer : List ℕ) : Type 0 where
@@ -65,15 +66,15 @@ module _ (bytes : List ℕ) where
     pub records : recordsIn bytes ws buffer ≡ buffer
     pub count : outcomeCount (outcomeIn bytes (length ws) (length buffer)) ≡ 0
 
-  pub batch-untouched : (ws buffer : List ℕ) → outcomeRefusal (outcomeIn bytes (length ws) (length buffer)) ≢ 0 → Untouched ws buffer
+  pub batch-untouched : Octets bytes → (ws buffer : List ℕ) → outcomeRefusal (outcomeIn bytes (length ws) (length buffer)) ≢ 0 → Untouched ws buffer
   unfolding outcomeIn batchedIn recordsIn bufferAfter
-  batch-untouched ws buffer n = go (isImage bytes) refl
+  batch-untouched o ws buffer n = go (isImage bytes) refl
     where
       go : (b : Bool) → isImage bytes ≡ b → Untouched ws buffer
       go true e =
           let u = refused-untouched (outcomeOf (stateIn bytes) (length ws) (length buffer)) (stateIn bytes) ws buffer (rw e at n) in
           record {
-            state = rw e (ap saved (u .state) ∙ saved-loaded bytes (image-whole bytes e));
+            state = rw e (ap saved (u .state) ∙ saved-loaded bytes o (image-whole bytes e));
             records = rw e (u .bytes);
             count = rw e (u .count);
           }

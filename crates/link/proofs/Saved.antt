@@ -5,13 +5,14 @@ use mathlib.Core.List.{List}
 use lib.ListN.{length}
 use Rattle.dock.specs.Record.{freshController}
 use Rattle.dock.specs.Step.{stepOf, toldReading, toldOutputs}
+use Rattle.dock.specs.Name.{nameOf}
 use Rattle.dock.specs.declared.Controller.{Controller}
 use Rattle.batch.specs.Batch.{outcomeOf, stateBy, bufferAfter}
 use Rattle.image.specs.Save.{saved}
 use Rattle.image.specs.Shape.{Shaped}
 use Rattle.image.proofs.RoundTrip.{saved-image, state-back}
 use Rattle.image.proofs.Shape.{fresh-shaped}
-use Rattle.link.specs.Held.{inImage, answerIn, steppedIn, outcomeIn, batchedIn, recordsIn, readingIn, outputsIn}
+use Rattle.link.specs.Held.{inImage, answerIn, steppedIn, outcomeIn, batchedIn, recordsIn, namingIn, namedIn, readingIn, outputsIn}
 
 module _ (s : Controller) (h : Shaped (s .machine)) where
   of-image : {A : Type 0} (gives : Controller → A) (none : A) → inImage (saved s) gives none ≡ gives s
@@ -36,6 +37,14 @@ module _ (s : Controller) (h : Shaped (s .machine)) where
   pub held-records : (ws buffer : List ℕ) → recordsIn (saved s) ws buffer ≡ bufferAfter s ws buffer
   unfolding recordsIn
   held-records ws buffer = of-image (λ t. bufferAfter t ws buffer) _
+
+  pub held-naming : (n : ℕ) → namingIn (saved s) n ≡ nameOf s n .naming
+  unfolding namingIn
+  held-naming n = of-image (λ t. nameOf t n .naming) _
+
+  pub held-name : (n : ℕ) → namedIn (saved s) n ≡ saved (nameOf s n .controller)
+  unfolding namedIn
+  held-name n = of-image (λ t. saved (nameOf t n .controller)) _
 
   pub held-reading : (a : ℕ) → readingIn (saved s) a ≡ toldReading s a
   unfolding readingIn

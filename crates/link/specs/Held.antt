@@ -6,9 +6,12 @@ use lib.Dec.{eqb}
 use lib.ListN.{length}
 use Rattle.dock.specs.Record.{freshController}
 use Rattle.dock.specs.Step.{stepOf, toldReading, toldOutputs}
+use Rattle.dock.specs.Name.{nameOf}
 use Rattle.dock.specs.declared.Controller.{Controller}
 use Rattle.dock.specs.declared.Answer.{Answer}
 use Rattle.dock.specs.declared.Answer.the-variants as answer
+use Rattle.dock.specs.declared.Naming.{Naming}
+use Rattle.dock.specs.declared.Naming.the-variants as naming
 use Rattle.dock.specs.declared.Told.{Told}
 use Rattle.dock.specs.declared.Told.the-variants as told
 use Rattle.batch.specs.Batch.{outcomeOf, stateBy, bufferAfter}
@@ -46,6 +49,13 @@ batchedIn bytes ws room = inImage bytes (λ s. saved (stateBy (outcomeOf s (leng
 
 unfoldable pub recordsIn : List ℕ → List ℕ → List ℕ → List ℕ
 recordsIn bytes ws buffer = inImage bytes (λ s. bufferAfter s ws buffer) buffer
+
+-- Naming a kind (document 03, "Naming the kind"): what becomes of the name, and the bytes afterwards.
+unfoldable pub namingIn : List ℕ → ℕ → Naming
+namingIn bytes n = inImage bytes (λ s. nameOf s n .naming) naming.Unfit
+
+unfoldable pub namedIn : List ℕ → ℕ → List ℕ
+namedIn bytes n = inImage bytes (λ s. saved (nameOf s n .controller)) bytes
 
 -- The questions, which change nothing.
 unfoldable pub readingIn : List ℕ → ℕ → Told

@@ -1,5 +1,5 @@
--- The library's version: 4.0, its two numbers side by side.
+-- The library's version: 5.0, its two numbers side by side.
 use Prim.Native.Nat.{ℕ, _*_}
 
 abbrev pub VERSION : ℕ
-VERSION = 4 * 256
+VERSION = 5 * 256

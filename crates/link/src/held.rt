@@ -4,11 +4,12 @@ ghost use lib.ListN.{length};
 ghost use Rattle.batch.specs.Decode.{numberOf};
 ghost use Rattle.batch.specs.Record.{recordOf};
 ghost use Rattle.image.specs.Layout.{BYTES};
-ghost use Rattle.link.specs.Answer.{batchedAs, toldAs};
-ghost use Rattle.link.specs.Held.{begun, begunIn, answerIn, steppedIn, outcomeIn, batchedIn, recordsIn, readingIn, outputsIn};
+ghost use Rattle.link.specs.Answer.{batchedAs, namedAs, toldAs};
+ghost use Rattle.link.specs.Held.{begun, begunIn, answerIn, steppedIn, outcomeIn, batchedIn, recordsIn, namingIn, namedIn, readingIn, outputsIn};
 use crate::answer::both;
 use crate::answer::counted;
 use batch::Outcome;
+use dock::Naming;
 use dock::Told;
 use image::Verdict;
 use image::load::load;
@@ -98,6 +99,33 @@ pub extern "C" fn dock_batch(state: &mut [u8], words: &[u16], records: &mut [u8]
     ensures { λ _. ⌜ now (records .exit) ≡ recordsIn (now (state .entry)) (now (words .entry)) (now (records .entry)) ⌝ }
 {
     counted(run(state, words, records))
+}
+
+// What became of a name.
+fn named(naming: Naming) -> u32
+    ensures { λ r. ⌜ r ≡ namedAs naming ⌝ }
+{
+    both(naming.refusal(), 0)
+}
+
+// Names a kind, 1 the first and 2 the second, for the RESETs to come. Answers the refusal.
+#[no_mangle]
+pub extern "C" fn dock_name_kind(state: &mut [u8], kind: u8) -> u32
+    ensures { λ r. ⌜ r ≡ namedAs (namingIn (now (state .entry)) kind) ⌝ }
+    ensures { λ _. ⌜ now (state .exit) ≡ namedIn (now (state .entry)) kind ⌝ }
+{
+    let loaded = load(&*state);
+    let verdict = loaded.verdict;
+    let Verdict::Whole = verdict else {
+        return named(Naming::Unfit);
+    };
+    let renamed = loaded.controller.name(kind);
+    let naming = renamed.naming;
+    let Naming::Stored = naming else {
+        return named(naming);
+    };
+    put(save(renamed.controller), state);
+    named(naming)
 }
 
 // What a question answered.

@@ -10,7 +10,7 @@ use Rattle.machine.proofs.Machine.fit.Reads as fit-reads
 use Rattle.machine.proofs.Machine.reading.Reads as reading-reads
 use Rattle.machine.proofs.Machine.outputs.Reads as outputs-reads
 use Rattle.machine.proofs.Machine.does.Reads as does-reads
-use Rattle.machine.proofs.registers.pulse_ticks.Reads as pulse-ticks-reads
+use Rattle.machine.proofs.setting.pulse_ticks.Reads as pulse-ticks-reads
 
 pub fresh-determined : (r s : Machine) → fresh-reads.Post tt tt r tt → fresh-reads.Post tt tt s tt → r ≡ s
 fresh-determined r s p q = p ∙ sym q

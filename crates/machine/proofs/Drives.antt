@@ -1,9 +1,9 @@
 -- The nine outputs by name, and how lamps flash (document 01, "Replies and refusal numbers" and "Bay moves"). Assumes nothing.
 use Prim.Native.Nat.{ℕ, zero, suc, _+_, _*_, _/_, _%_, _<_}
 use native.Mathlib.Omega.{arith}
-use mathlib.Core.Path.{_≡_, _∙_}
-use mathlib.Core.Bool.{Bool, true, false, _||_}
-use mathlib.Core.List.{[], _∷_}
+use mathlib.Core.Path.{_≡_, _∙_, refl}
+use mathlib.Core.Bool.{Bool, true, false, _||_, _&&_, cond}
+use mathlib.Core.List.{[], _∷_, map}
 use lib.Dec.{ltb}
 use lib.ListN.{getD, replicate}
 use borrow.Author.Tests.{eq-eqb, ne-eqb, ltb-true, ltb-false}
@@ -11,14 +11,17 @@ use Rattle.bits.specs.Bits.{bit, put}
 use Rattle.bay.specs.Outputs.{lockPin, bayOutputs}
 use Rattle.bay.proofs.Taut.{pick}
 use Rattle.bay.proofs.Named.{bay-drives, lamps}
-use Rattle.machine.specs.Record.{bayAt, isOpen, hides}
-use Rattle.machine.specs.Registers.{settingOf}
+use Rattle.machine.specs.Record.{bayAt, isOpen}
+use Rattle.machine.specs.Setting.{hides, settingOf, isLit}
 use Rattle.machine.specs.Outputs.{nibble, wants, outputs}
 use Rattle.machine.specs.Acts.{nextPhase, tickTo, does, doesAll}
 use Rattle.machine.specs.declared.Machine.{Machine}
 use Rattle.machine.specs.declared.Act.the-variants.{Tick}
 use Rattle.machine.proofs.Choice.{chosen}
 use Rattle.machine.proofs.Ranges.{nibble-small, bit-small}
+use Rattle.kind.specs.declared.Kind.the-variants.{First, Second}
+use Rattle.kind.specs.declared.Kind.{Kind}
+use Rattle.kind.specs.Kind.{isSecond}
 
 -- ---- which bit is which
 
@@ -42,23 +45,44 @@ nine-outputs m t =
     lowest p q true = eq-eqb ((p * 32 + q * 2 + 1) / 1 % 2) 1 (omega arith)
     lowest p q false = ne-eqb ((p * 32 + q * 2 + 0) / 1 % 2) 1 (λ e. omega (arith, e))
 
--- A bay's four: power is PWR_CTL; the lamps in Empty, Inserted, Enabled, Removal Requested and Removal Allowed, flashing ones lit
--- while the phase is below 100.
+-- Whether a flashing lamp is lit: in the first kind while the phase is below 100, in the second in the first half of each hundred.
+abbrev pub lit : Machine → Bool
+lit m = cond (isSecond (m .kind)) (ltb (m .phase % 100) 50) (ltb (m .phase) 100)
+
+lit-as : (m : Machine) → isLit (m .kind) (m .phase) ≡ lit m
+unfolding isLit
+lit-as m = go (m .kind)
+  where
+    go : (k : Kind) → isLit k (m .phase) ≡ cond (isSecond k) (ltb (m .phase % 100) 50) (ltb (m .phase) 100)
+    go First = refl
+    go Second = refl
+
+-- A bay's four: power is PWR_CTL; the lamps in Empty, Inserted, Enabled, Removal Requested and Removal Allowed. In the second kind the green
+-- one flashes in Empty for a device that seats, with DEVSTSCHG_EN.
 pub record Four (m : Machine) (i : ℕ) (four : ℕ) : Type 0 where
   pub power : bit 3 four ≡ bayAt m i .control .«pwr_ctl»
   pub lock-pin : bit 2 four ≡ lockPin (settingOf m) (bayAt m i)
-  pub green : bit 1 four ≡ getD (false ∷ ltb (m .phase) 100 ∷ true ∷ false ∷ false ∷ []) (bayAt m i .state) false
-  pub yellow : bit 0 four ≡ getD (false ∷ false ∷ false ∷ ltb (m .phase) 100 ∷ false ∷ []) (bayAt m i .state) false
+  pub green :
+      bit 1 four
+      ≡ getD ((isSecond (m .kind) && ltb 0 (bayAt m i .wait) && bayAt m i .control .«devstschg_en» && lit m) ∷ lit m ∷ true ∷ false ∷ false ∷ []) (bayAt m i .state) false
+  pub yellow : bit 0 four ≡ getD (false ∷ false ∷ false ∷ lit m ∷ false ∷ []) (bayAt m i .state) false
 
 pub four-outputs : (m : Machine) (i : ℕ) → isOpen m i ≡ true → bayAt m i .state < 5 → Four m i (nibble m i)
 unfolding nibble hides
-four-outputs m i o l = rw (chosen o) four
+four-outputs m i o l = rw (chosen o, lit-as m) four
   where
-    four : Four m i (bayOutputs (hides m) (settingOf m) (ltb (m .phase) 100) (bayAt m i))
+    four : Four m i (bayOutputs (hides m) (settingOf m) (lit m) (bayAt m i))
     four =
-        let d = bay-drives (hides m) (settingOf m) (ltb (m .phase) 100) (bayAt m i) in
-        let lamp = lamps (hides m) (ltb (m .phase) 100) (bayAt m i) l in
+        let d = bay-drives (hides m) (settingOf m) (lit m) (bayAt m i) in
+        let lamp = lamps (hides m) (lit m) (bayAt m i) l in
         record { power = d .power; lock-pin = d .lock; green = d .green ∙ lamp .0; yellow = d .yellow ∙ lamp .1 }
+
+-- Over a phase's 200 ticks: lit below 100; and lit below 50, and from 100 below 150.
+pub flashes :
+    (map (isLit First) (0 ∷ 49 ∷ 50 ∷ 99 ∷ 100 ∷ 149 ∷ 150 ∷ 199 ∷ []) ≡ true ∷ true ∷ true ∷ true ∷ false ∷ false ∷ false ∷ false ∷ [])
+    × (map (isLit Second) (0 ∷ 49 ∷ 50 ∷ 99 ∷ 100 ∷ 149 ∷ 150 ∷ 199 ∷ []) ≡ true ∷ true ∷ false ∷ false ∷ true ∷ true ∷ false ∷ false ∷ [])
+unfolding isLit
+flashes = (refl, refl)
 
 -- ---- the phase
 

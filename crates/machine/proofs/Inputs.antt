@@ -4,16 +4,17 @@ use mathlib.Core.Path.{_≡_, refl, ap, _∙_}
 use mathlib.Core.Bool.{Bool, true, false, cond}
 use Rattle.bay.specs.declared.Bay.{Bay}
 use Rattle.bay.specs.Debounced.{seesAll, atRest}
-use Rattle.bay.specs.Happens.{tick, pins, bstr, bcer, happens, line}
+use Rattle.bay.specs.Happens.{tick, pins, bstr, bcer, happens, line, unlock}
 use Rattle.bay.proofs.Happens.{input-sees, reset-line, empty-line}
-use Rattle.machine.specs.Record.{bayAt, isOpen, hides}
-use Rattle.machine.specs.Registers.{settingOf, written}
+use Rattle.machine.specs.Record.{bayAt, isOpen}
+use Rattle.machine.specs.Setting.{hides, settingOf}
+use Rattle.machine.specs.InForce.{written}
 use Rattle.machine.specs.Acts.{lockAfterReset, does}
 use Rattle.machine.specs.After.{closes, ownLevels, bayAfter}
 use Rattle.machine.specs.Inputs.{inputOf, inputAfter}
 use Rattle.machine.specs.declared.Machine.{Machine}
 use Rattle.machine.specs.declared.Act.{Act}
-use Rattle.machine.specs.declared.Act.the-variants.{Write, Read, Pins, Tick, Reset}
+use Rattle.machine.specs.declared.Act.the-variants.{Write, Read, Pins, Tick, Reset, Name}
 use Rattle.machine.proofs.After.{bay-after, of-write, three}
 
 -- An input of the bay that is picked.
@@ -27,8 +28,9 @@ module _ (k : ℕ) (l : k < 3) where
   unfolding happens seesAll
   write-input a v m i =
       of-write a v m (λ (b : Bay). line b k ≡ cond (closes m i a v) (atRest true) (inputOf m i k)) i
-      (λ e o. input-sees (hides m) (bcer _ _) (bayAt m i) k l ∙ rw (e, three i .bcer-dbccr)) (λ e o. input-sees (hides m) (bstr v) (bayAt m i) k l ∙ rw (e, three i .bstr-dbccr))
-      (λ p q c. empty-line k l ∙ rw c) (λ p q c. rw c)
+      (λ e o. input-sees (hides m) (bcer _ _) (bayAt m i) k l ∙ rw (e, three (m .kind) i .bcer-dbccr))
+      (λ e o. input-sees (hides m) (bstr v) (bayAt m i) k l ∙ rw (e, three (m .kind) i .bstr-dbccr))
+      (λ p q c. empty-line k l ∙ rw c) (λ p q c u. input-sees (hides m) unlock (bayAt m i) k l ∙ rw c) (λ p q c u. rw c)
 
   pub input-after : (a : Act) (m : Machine) (i : ℕ) → inputOf (does a m) i k ≡ inputAfter m i k a
   unfolding does inputAfter bayAfter happens seesAll
@@ -41,4 +43,5 @@ module _ (k : ℕ) (l : k < 3) where
       ap (λ (b : Bay). line b k) (bay-after Tick m i) ∙ of-picked k (isOpen m i) _ _
       ∙ ap (λ t. cond (isOpen m i) t (inputOf m i k)) (input-sees (hides m) (tick (settingOf m)) (bayAt m i) k l)
   input-after (Reset straps levels short) m i =
-      ap (λ (b : Bay). line b k) (bay-after (Reset straps levels short) m i) ∙ reset-line (ownLevels i levels) (lockAfterReset straps) k l
+      ap (λ (b : Bay). line b k) (bay-after (Reset straps levels short) m i) ∙ reset-line (ownLevels i levels) (lockAfterReset (m .named) straps) k l
+  input-after (Name x) m i = ap (λ (b : Bay). line b k) (bay-after (Name x) m i)

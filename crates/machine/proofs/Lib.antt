@@ -3,6 +3,7 @@ pub mod Bays
 pub mod Keeps
 pub mod Addresses
 pub mod After
+pub mod Own
 pub mod Kept
 pub mod Fit
 pub mod Sound
@@ -11,6 +12,7 @@ pub mod Dbccr
 pub mod Straps
 pub mod Laws
 pub mod Map
+pub mod SecondMap
 pub mod Drives
 pub mod Moves
 pub mod Remreq

@@ -2,26 +2,20 @@
 use Prim.Native.Nat.{ℕ, _<_}
 use native.Mathlib.Omega.{arith}
 use mathlib.Core.Bool.{Bool, true, false, _||_}
-use mathlib.Core.List.{List, [], _∷_}
-use lib.Dec.{eqb}
 use Rattle.bits.specs.Bits.{put}
 use Rattle.bay.proofs.Taut.{pick}
 use Rattle.bay.proofs.Laws.{bstr-byte, bcer-byte, outputs-nibble}
-use Rattle.machine.specs.Record.{bayAt, isOpen, hides, secured}
+use Rattle.machine.specs.Record.{bayAt, isOpen}
+use Rattle.machine.specs.Setting.{hides, secured, settingOf}
 use Rattle.machine.specs.Outputs.{nibble, wants, outputs}
-use Rattle.machine.specs.Registers.{Row, find, dbccrOf, bstrAt, bcerAt, register, registers, reading, settingOf}
+use Rattle.machine.specs.Registers.{dbccrOf, bstrAt, bcerAt}
+use Rattle.machine.specs.InForce.{register, reading}
 use Rattle.machine.specs.declared.Machine.{Machine}
 use Rattle.machine.specs.declared.Shared.{Shared}
-
--- A table whose entries are bytes has a byte at every address.
-Bytes : List (Row ℕ) → Type 0
-Bytes [] = Unit {0}
-Bytes (r ∷ rs) = (r .holds < 256) × Bytes rs
-
-found-byte : (a : ℕ) (rs : List (Row ℕ)) → Bytes rs → find a rs 0 < 256
-unfolding Bytes
-found-byte a [] h = omega arith
-found-byte a (r ∷ rs) h = pick (λ n. n < 256) (eqb a (r .address)) (λ e. h .0) (λ e. found-byte a rs (h .1))
+use Rattle.machine.proofs.Addresses.{Each, found}
+use Rattle.machine.specs.FirstKind.{firstRegister, firstRegisters}
+use Rattle.machine.specs.SecondKind.{formFactorAt, secondRegister, secondRegisters, subsystemAt}
+use Rattle.kind.specs.Kind.{isSecond}
 
 put-small : (b : Bool) → put 4 b < 17
 put-small true = omega arith
@@ -39,10 +33,44 @@ bcer-at-byte : (m : Machine) (i : ℕ) → bcerAt m i < 256
 unfolding bcerAt
 bcer-at-byte m i = pick (λ n. n < 256) (isOpen m i) (λ o. bcer-byte (bayAt m i)) (λ o. omega arith)
 
+form-factor-byte : (m : Machine) (i : ℕ) → formFactorAt m i < 256
+unfolding formFactorAt
+form-factor-byte m i = pick (λ n. n < 256) {n = 0} (isOpen m i) (λ o. omega arith) (λ o. omega arith)
+
+-- A table whose entries are bytes has a byte at every address.
+abbrev Byte : ℕ → Type 0
+Byte n = n < 256
+
 register-byte : (m : Machine) (a : ℕ) → register m a < 256
-unfolding register registers Bytes
+unfolding register firstRegister firstRegisters secondRegister secondRegisters subsystemAt Each
 register-byte m a =
-    found-byte a (registers m) (
+    pick Byte (isSecond (m .kind))
+    (λ _. found Byte a (secondRegisters m) 0 (
+      omega arith,
+      (
+        omega arith,
+        (
+          omega arith,
+          (
+            omega arith,
+            (
+              omega arith,
+              (
+                omega arith,
+                (
+                  omega arith,
+                  (
+                    dbccr-byte (m .shared),
+                    (bcer-at-byte m 0, (bstr-at-byte m 0, (form-factor-byte m 0, (bcer-at-byte m 1, (bstr-at-byte m 1, (form-factor-byte m 1, (omega arith, tt))))))),
+                  ),
+                ),
+              ),
+            ),
+          ),
+        ),
+      ),
+    ) (omega arith))
+    (λ _. found Byte a (firstRegisters m) 0 (
       omega arith,
       (
         omega arith,
@@ -54,7 +82,7 @@ register-byte m a =
           ),
         ),
       ),
-    )
+    ) (omega arith))
 
 pub reading-byte : (m : Machine) (a : ℕ) → reading m a < 256
 unfolding reading

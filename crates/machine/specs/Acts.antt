@@ -1,4 +1,4 @@
--- What a machine does (document 01): whole acts, each at once.
+-- What a machine does (document 01; document 03, "Naming the kind" and "Registers"): whole acts, each at once.
 use Prim.Native.Nat.{ℕ, _+_, _-_, _/_, _%_}
 use mathlib.Core.Bool.{Bool, true, false, not, cond, _&&_, Bool·beq}
 use mathlib.Core.List.{List, [], _∷_}
@@ -8,30 +8,64 @@ use Rattle.bay.specs.declared.Bay.{Bay}
 use Rattle.bay.specs.Record.{resetBay}
 use Rattle.bay.specs.Debounce.{sampledBay}
 use Rattle.bay.specs.Moves.{tickedBay, rests}
-use Rattle.machine.specs.Record.{PHASES, LIT, bayIn, bayAt, isOpen, hides, become, withBays, unwritten}
-use Rattle.machine.specs.Registers.{settingOf, written}
+use Rattle.kind.specs.declared.Kind.{Kind}
+use Rattle.kind.specs.declared.Kind.the-variants.{First, Second}
+use Rattle.second.specs.Record.{reset}
+use Rattle.second.specs.declared.Second as second
+use Rattle.machine.specs.Record.{PHASES, bayIn, bayAt, isOpen, become, withBays, unwritten}
+use Rattle.machine.specs.Setting.{hides, isLit, settingOf}
+use Rattle.machine.specs.InForce.{written}
 use Rattle.machine.specs.declared.Machine.{Machine}
 use Rattle.machine.specs.declared.Act.{Act}
 use Rattle.machine.specs.declared.Acted.{Acted}
-use Rattle.machine.specs.declared.Act.the-variants.{Write, Read, Pins, Tick, Reset}
+use Rattle.machine.specs.declared.Act.the-variants.{Write, Read, Pins, Tick, Reset, Name}
 
--- After RESET LOCK_CTL is equal to LOCK_DEF if LOCK_MODE is 0 and else 0.
-abbrev pub lockAfterReset : ℕ → Bool
-lockAfterReset straps = lockDef straps && not (lockMode straps)
+-- After RESET LOCK_CTL is equal to LOCK_DEF if LOCK_MODE is 0 and else 0; in the second kind it is 0 (l.465).
+unfoldable pub lockAfterReset : Kind → ℕ → Bool
+lockAfterReset First straps = lockDef straps && not (lockMode straps)
+lockAfterReset Second straps = false
 
--- After RESET LETR is 1, or 0 if the short pulse is asked for (document 02, request 4).
-abbrev pub letrAfterReset : Bool → ℕ
-letrAfterReset short = cond short 0 1
+-- After RESET LETR is 1, or 0 if the short pulse is asked for (document 02, request 4). In the second kind it is 0, whatever is asked for.
+unfoldable pub letrAfterReset : Kind → Bool → ℕ
+letrAfterReset First short = cond short 0 1
+letrAfterReset Second short = 0
 
--- RESET: LETR so, 42h 0, DBCCR 0 and unwritten, phase 0, both bays as RESET makes them with their levels (bay 0's are bits 7-4).
-unfoldable pub resetTo : ℕ → ℕ → Bool → Machine
-resetTo straps levels short =
+-- After RESET the bay count is 0, and in the second kind 2 (l.446).
+unfoldable pub countAfterReset : Kind → ℕ
+countAfterReset First = 0
+countAfterReset Second = 2
+
+-- RESET into a kind: LETR and DBCCR so, DBCCR unwritten, 42h 0, phase 0, both bays as RESET makes them with their levels (bay 0's are bits
+-- 7-4), and of the second kind's own registers what a RESET leaves.
+unfoldable pub resetAs : Kind → ℕ → ℕ → Bool → second.Second → Machine
+resetAs k straps levels short own =
     record {
       started = true;
       straps = straps;
-      shared = unwritten (letrAfterReset short);
+      kind = k;
+      named = k;
+      shared = unwritten (countAfterReset k) (letrAfterReset k short);
+      second = reset own;
       phase = 0;
-      bays = resetBay (levels / 16) (lockAfterReset straps) ∷ resetBay (levels % 16) (lockAfterReset straps) ∷ [];
+      bays = resetBay (levels / 16) (lockAfterReset k straps) ∷ resetBay (levels % 16) (lockAfterReset k straps) ∷ [];
+    }
+
+-- The named kind comes into force, and the name stays for later RESETs (document 03, "Naming the kind").
+abbrev pub resetTo : ℕ → ℕ → Bool → Machine → Machine
+resetTo straps levels short m = resetAs (m .named) straps levels short (m .second)
+
+-- Naming a kind stores the name, and changes nothing else until a RESET comes.
+unfoldable pub nameTo : Kind → Machine → Machine
+nameTo k m =
+    record {
+      started = m .started;
+      straps = m .straps;
+      kind = m .kind;
+      named = k;
+      shared = m .shared;
+      second = m .second;
+      phase = m .phase;
+      bays = m .bays;
     }
 
 -- A bay after PINS and after a TICK. A closed bay is passed by.
@@ -59,7 +93,8 @@ does (Write a v) m = written a v m
 does (Read a) m = m
 does (Pins levels) m = pinsTo levels m
 does Tick m = tickTo m
-does (Reset straps levels short) m = resetTo straps levels short
+does (Reset straps levels short) m = resetTo straps levels short m
+does (Name k) m = nameTo k m
 
 -- .. and after a list of acts, one after the other.
 unfoldable pub doesAll : List Act → Machine → Machine
@@ -73,16 +108,17 @@ unfoldable pub restful : List Bay → Bool
 restful bs = rests (bayIn bs 0) && rests (bayIn bs 1)
 
 -- A flashing lamp is lit after a TICK as it was before.
-abbrev pub keepsLit : ℕ → Bool
-keepsLit p = Bool·beq (ltb p LIT) (ltb (nextPhase p) LIT)
+abbrev pub keepsLit : Kind → ℕ → Bool
+keepsLit k p = Bool·beq (isLit k p) (isLit k (nextPhase p))
 
--- A read, a pin sample, and a TICK of both these kinds.
+-- A read, a pin sample, a name, and a TICK in which both are so.
 unfoldable pub keeps : Act → Machine → Bool
 keeps (Write a v) m = false
 keeps (Read a) m = true
 keeps (Pins levels) m = true
-keeps Tick m = restful (m .bays) && keepsLit (m .phase)
+keeps Tick m = restful (m .bays) && keepsLit (m .kind) (m .phase)
 keeps (Reset straps levels short) m = false
+keeps (Name k) m = true
 
 -- The machine after an act, and whether it is such an act.
 abbrev pub acted : Act → Machine → Acted

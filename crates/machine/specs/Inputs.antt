@@ -9,7 +9,7 @@ use Rattle.machine.specs.Record.{bayAt, isOpen}
 use Rattle.machine.specs.After.{closes, ownLevels}
 use Rattle.machine.specs.declared.Machine.{Machine}
 use Rattle.machine.specs.declared.Act.{Act}
-use Rattle.machine.specs.declared.Act.the-variants.{Write, Read, Pins, Tick, Reset}
+use Rattle.machine.specs.declared.Act.the-variants.{Write, Read, Pins, Tick, Reset, Name}
 
 -- Input k of bay i: its level, its accepted level and its count.
 abbrev pub inputOf : Machine → ℕ → ℕ → Line
@@ -27,3 +27,4 @@ inputAfter m i k (Read a) = inputOf m i k
 inputAfter m i k (Pins levels) = cond (isOpen m i) (sees (ticksFor k) (Sample (sampleOf i k levels)) (inputOf m i k)) (inputOf m i k)
 inputAfter m i k Tick = cond (isOpen m i) (sees (ticksFor k) SeesTick (inputOf m i k)) (inputOf m i k)
 inputAfter m i k (Reset straps levels short) = atRest (sampleOf i k levels)
+inputAfter m i k (Name x) = inputOf m i k

@@ -1,8 +1,13 @@
 pub mod Record
+pub mod Setting
 pub mod Registers
+pub mod FirstKind
+pub mod SecondKind
+pub mod InForce
 pub mod Outputs
 pub mod Acts
 pub mod After
+pub mod Own
 pub mod Sound
 pub mod Kept
 pub mod Moves

@@ -1,16 +1,15 @@
 -- The nine outputs (document 01, "Replies and refusal numbers" and "Bay moves").
 use Prim.Native.Nat.{ℕ, _+_, _*_}
 use mathlib.Core.Bool.{Bool, cond, _&&_, _||_}
-use lib.Dec.{ltb}
 use Rattle.bits.specs.Bits.{put}
 use Rattle.bay.specs.Outputs.{bayOutputs, interrupts}
-use Rattle.machine.specs.Record.{LIT, bayAt, isOpen, hides}
-use Rattle.machine.specs.Registers.{settingOf}
+use Rattle.machine.specs.Record.{bayAt, isOpen}
+use Rattle.machine.specs.Setting.{hides, isLit, settingOf}
 use Rattle.machine.specs.declared.Machine.{Machine}
 
--- A bay's outputs: a flashing lamp is lit while the phase is below 100. A closed bay's outputs are 0.
+-- A bay's outputs. A closed bay's are 0.
 unfoldable pub nibble : Machine → ℕ → ℕ
-nibble m i = cond (isOpen m i) (bayOutputs (hides m) (settingOf m) (ltb (m .phase) LIT) (bayAt m i)) 0
+nibble m i = cond (isOpen m i) (bayOutputs (hides m) (settingOf m) (isLit (m .kind) (m .phase)) (bayAt m i)) 0
 
 -- The interrupt condition holds in an open bay.
 unfoldable pub wants : Machine → ℕ → Bool

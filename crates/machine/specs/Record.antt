@@ -1,4 +1,4 @@
--- The machine's record: fresh, fit, and its parts by name (document 01, "Replies and refusal numbers" and "Registers").
+-- The machine's record: fresh, fit, and its parts by name (document 01, "Replies and refusal numbers" and "Registers"; document 03, "State").
 use Prim.Native.Nat.{ℕ}
 use mathlib.Core.Bool.{Bool, true, false, not, cond, _&&_, _||_}
 use mathlib.Core.List.{List, [], _∷_}
@@ -7,17 +7,17 @@ use lib.ListN.{getD}
 use Rattle.bits.specs.Straps.{MOST-STRAPS}
 use Rattle.bay.specs.Record.{noBay, emptyBay, bayFit}
 use Rattle.bay.specs.declared.Bay.{Bay}
+use Rattle.kind.specs.declared.Kind.{Kind}
+use Rattle.kind.specs.declared.Kind.the-variants.{First, Second}
+use Rattle.second.specs.Record.{fresh, fits as secondFits}
 use Rattle.machine.specs.declared.Machine.{Machine}
 use Rattle.machine.specs.declared.Shared.{Shared}
 
 -- ---- the paper's numbers
 
--- The phase is 0-199; a flashing lamp is lit while it is below 100.
+-- The phase is 0-199.
 abbrev pub PHASES : ℕ
 PHASES = 200
-
-abbrev pub LIT : ℕ
-LIT = 100
 
 -- The bay count that closes bay 1, and the largest.
 abbrev pub ONE-BAY : ℕ
@@ -28,6 +28,15 @@ MOST-BAYS = 3
 
 abbrev pub MOST-LOCK-TIME : ℕ
 MOST-LOCK-TIME = 3
+
+-- With the first kind in force pulses are fit 0-200 and waits 0-255; with the second, pulses 0-1200 and waits 0-560.
+abbrev pub mostPulse : Kind → ℕ
+mostPulse First = 200
+mostPulse Second = 1200
+
+abbrev pub mostWait : Kind → ℕ
+mostWait First = 255
+mostWait Second = 560
 
 -- ---- bays by number
 
@@ -55,21 +64,21 @@ openBy count i = eqb i 0 || not (eqb count ONE-BAY)
 abbrev pub isOpen : Machine → ℕ → Bool
 isOpen m i = openBy (m .shared .«bay_count») i
 
--- ---- what this kind of controller makes of the rules of a bay (document 03, "Bay moves")
-
--- A wait doesn't hide the device: present stays contact (document 02, request 6).
-unfoldable pub hides : Machine → Bool
-hides m = false
-
--- The security lock always shows in BSTR.
-unfoldable pub secured : Machine → Bool
-secured m = true
-
 -- ---- what acts change
 
 -- The same machine with these registers, this phase and these bays.
 abbrev pub become : Shared → ℕ → List Bay → Machine → Machine
-become shared phase bays m = record { started = m .started; straps = m .straps; shared = shared; phase = phase; bays = bays }
+become shared phase bays m =
+    record {
+      started = m .started;
+      straps = m .straps;
+      kind = m .kind;
+      named = m .named;
+      shared = shared;
+      second = m .second;
+      phase = phase;
+      bays = bays;
+    }
 
 -- .. with these bays.
 abbrev pub withBays : List Bay → Machine → Machine
@@ -80,19 +89,34 @@ withBay i b m = withBays (placed i b (m .bays)) m
 
 -- ---- fresh and fit
 
--- DBCCR 0 and unwritten, LETR as given, and 42h 0.
-abbrev pub unwritten : ℕ → Shared
-unwritten letr = record { «dbccr_written» = false; seclock = false; «bay_count» = 0; «lock_time» = letr; «wait_time» = 0 }
+-- DBCCR with this bay count and unwritten, LETR as given, and 42h 0.
+abbrev pub unwritten : ℕ → ℕ → Shared
+unwritten count letr = record { «dbccr_written» = false; seclock = false; «bay_count» = count; «lock_time» = letr; «wait_time» = 0 }
 
--- A fresh state is not started.
+-- A fresh state is not started; the kind in force and the named kind are the first.
 unfoldable pub freshMachine : Machine
-freshMachine = record { started = false; straps = 0; shared = unwritten 0; phase = 0; bays = emptyBay ∷ emptyBay ∷ [] }
+freshMachine =
+    record {
+      started = false;
+      straps = 0;
+      kind = First;
+      named = First;
+      shared = unwritten 0 0;
+      second = fresh;
+      phase = 0;
+      bays = emptyBay ∷ emptyBay ∷ [];
+    }
 
--- A state is fit when phase is 0-199, straps 0-15, lock time 0-3, bay count 0-3, and each bay is fit; any other field may hold any
--- value of its kind.
+-- A state is fit when phase is 0-199, straps 0-15, lock time 0-3, bay count 0-3, the second kind's own registers are fit, and each bay
+-- is; any other field may hold any value of its kind.
 abbrev pub sharedFit : Shared → Bool
 sharedFit r = leb (r .«lock_time») MOST-LOCK-TIME && leb (r .«bay_count») MOST-BAYS
 
+-- A bay is so by the kind in force.
+abbrev pub fitIn : Kind → Bay → Bool
+fitIn k b = bayFit (mostPulse k) (mostWait k) b
+
 unfoldable pub fits : Machine → Bool
 fits m =
-    ltb (m .phase) PHASES && leb (m .straps) MOST-STRAPS && sharedFit (m .shared) && bayFit (bayAt m 0) && bayFit (bayAt m 1)
+    ltb (m .phase) PHASES && leb (m .straps) MOST-STRAPS && sharedFit (m .shared) && secondFits (m .second) && fitIn (m .kind) (bayAt m 0)
+    && fitIn (m .kind) (bayAt m 1)

@@ -1,15 +1,16 @@
--- The register map (document 01, "Registers"; document 001, Table 5; document 02, request 6).
+-- The registers that both kinds have (document 01, "Registers"; document 03, "Registers"): DBCCR, and a bay's BSTR and BCER, as they read and
+-- what a write does. Where they are is each kind's own.
 use Prim.Native.Nat.{ℕ, _+_, _%_}
-use mathlib.Core.Bool.{true, false, cond}
+use mathlib.Core.Bool.{true, cond}
 use mathlib.Core.List.{List, [], _∷_}
-use lib.Dec.{eqb}
-use lib.ListN.{getD}
+use lib.Dec.{eqb, ltb}
 use Rattle.bits.specs.Bits.{bit, put}
-use Rattle.bits.specs.Straps.{lockMode}
 use Rattle.bay.specs.Record.{emptyBay}
-use Rattle.bay.specs.declared.Setting.{Setting}
 use Rattle.bay.specs.Registers.{bstrOf, bcerOf, bstrWritten, controlOf, controlledBay}
-use Rattle.machine.specs.Record.{ONE-BAY, bayAt, isOpen, hides, secured, become, withBay}
+use Rattle.kind.specs.declared.Kind.{Kind}
+use Rattle.kind.specs.declared.Kind.the-variants.{First, Second}
+use Rattle.machine.specs.Record.{ONE-BAY, bayAt, isOpen, become, withBay}
+use Rattle.machine.specs.Setting.{hides, secured, settingOf}
 use Rattle.machine.specs.declared.Machine.{Machine}
 use Rattle.machine.specs.declared.Shared.{Shared}
 
@@ -25,100 +26,42 @@ abbrev pub find : {A : Type 0} → ℕ → List (Row A) → A → A
 find a [] other = other
 find a (r ∷ rs) other = cond (eqb a (r .address)) (r .holds) (find a rs other)
 
--- DBCCR: bit 4 SECLOCK, bits 1-0 bay count, others read 0.
+-- ---- DBCCR
+
+-- Bit 4 SECLOCK, bits 1-0 bay count, others read 0.
 unfoldable pub dbccrOf : Shared → ℕ
 dbccrOf r = r .«bay_count» % 4 + put 4 (r .seclock)
 
--- BSTR and BCER of a bay; of a closed one they read 0.
+-- The bay count that a written byte stores: bits 1-0. In the second kind bits 3-0, and one above 2 is stored as 2 (l.461).
+unfoldable pub countWritten : Kind → ℕ → ℕ
+countWritten First v = v % 4
+countWritten Second v = cond (ltb 2 (v % 16)) 2 (v % 16)
+
+-- It stores SECLOCK and the bay count. Count 1 closes bay 1: the write makes its record empty.
+abbrev pub dbccrTo : Kind → ℕ → Shared → Shared
+dbccrTo k v r =
+    record { «dbccr_written» = true; seclock = bit 4 v; «bay_count» = countWritten k v; «lock_time» = r .«lock_time»; «wait_time» = r .«wait_time» }
+
+unfoldable pub dbccrStored : ℕ → Machine → Machine
+dbccrStored v m =
+    become (dbccrTo (m .kind) v (m .shared)) (m .phase) (bayAt m 0 ∷ cond (eqb (countWritten (m .kind) v) ONE-BAY) emptyBay (bayAt m 1) ∷ []) m
+
+-- Only the first write after a RESET counts, even if it writes 0.
+unfoldable pub dbccrWrite : ℕ → Machine → Machine
+dbccrWrite v m = cond (m .shared .«dbccr_written») m (dbccrStored v m)
+
+-- ---- BSTR and BCER of a bay
+
+-- Of a closed one they read 0 ..
 unfoldable pub bstrAt : Machine → ℕ → ℕ
 bstrAt m i = cond (isOpen m i) (bstrOf (hides m) (secured m) (bayAt m i)) 0
 
 unfoldable pub bcerAt : Machine → ℕ → ℕ
 bcerAt m i = cond (isOpen m i) (bcerOf (bayAt m i)) 0
 
--- The register map.
-unfoldable pub registers : Machine → List (Row ℕ)
-registers m =
-    at 0x00 0x55
-    ∷ at 0x01 0x10
-    ∷ at 0x04 0x01
-    ∷ at 0x0C (dbccrOf (m .shared))
-    ∷ at 0x10 (bstrAt m 0)
-    ∷ at 0x14 (bcerAt m 0)
-    ∷ at 0x18 (bstrAt m 1)
-    ∷ at 0x1C (bcerAt m 1)
-    ∷ at 0x40 (m .shared .«lock_time» % 4)
-    ∷ at 0x42 (m .shared .«wait_time» % 256)
-    ∷ []
-
--- Every other address reads 0.
-unfoldable pub register : Machine → ℕ → ℕ
-register m a = find a (registers m) 0
-
--- Of a state not started every register reads 0.
-unfoldable pub reading : Machine → ℕ → ℕ
-reading m a = cond (m .started) (register m a) 0
-
--- DBCCR stores SECLOCK and the bay count. Count 1 closes bay 1: the write makes its record empty.
-abbrev pub dbccrTo : ℕ → Shared → Shared
-dbccrTo v r = record { «dbccr_written» = true; seclock = bit 4 v; «bay_count» = v % 4; «lock_time» = r .«lock_time»; «wait_time» = r .«wait_time» }
-
-unfoldable pub dbccrStored : ℕ → Machine → Machine
-dbccrStored v m = become (dbccrTo v (m .shared)) (m .phase) (bayAt m 0 ∷ cond (eqb (v % 4) ONE-BAY) emptyBay (bayAt m 1) ∷ []) m
-
--- Only the first write after a RESET counts, even if it writes 0.
-unfoldable pub dbccrWrite : ℕ → Machine → Machine
-dbccrWrite v m = cond (m .shared .«dbccr_written») m (dbccrStored v m)
-
--- LETR: bits 1-0 ..
-abbrev pub letrTo : ℕ → Shared → Shared
-letrTo v r =
-    record { «dbccr_written» = r .«dbccr_written»; seclock = r .seclock; «bay_count» = r .«bay_count»; «lock_time» = v % 4; «wait_time» = r .«wait_time» }
-
-unfoldable pub letrWrite : ℕ → Machine → Machine
-letrWrite v m = become (letrTo v (m .shared)) (m .phase) (m .bays) m
-
--- .. choose 12, 50, 100, 200 ticks in that order.
-unfoldable pub pulseTicks : ℕ → ℕ
-pulseTicks t = getD (12 ∷ 50 ∷ 100 ∷ []) t 200
-
--- 42h: all eight bits, the ticks for which a device seats.
-abbrev pub waitTo : ℕ → Shared → Shared
-waitTo v r =
-    record { «dbccr_written» = r .«dbccr_written»; seclock = r .seclock; «bay_count» = r .«bay_count»; «lock_time» = r .«lock_time»; «wait_time» = v }
-
-unfoldable pub waitWrite : ℕ → Machine → Machine
-waitWrite v m = become (waitTo v (m .shared)) (m .phase) (m .bays) m
-
--- What LOCK_MODE, LETR and 42h are for a bay: in LOCK_MODE 1 the lock is pulsed, low for LETR's ticks, and a device seats for those of 42h.
-unfoldable pub settingOf : Machine → Setting
-settingOf m =
-    record {
-      pulsed = lockMode (m .straps);
-      «pulse_high» = false;
-      «pulse_ticks» = pulseTicks (m .shared .«lock_time»);
-      «wait_ticks» = m .shared .«wait_time»;
-    }
-
--- BSTR and BCER of a closed bay take no write.
+-- .. and take no write.
 unfoldable pub bstrWrite : ℕ → ℕ → Machine → Machine
 bstrWrite i v m = cond (isOpen m i) (withBay i (bstrWritten v (bayAt m i)) m) m
 
 unfoldable pub bcerWrite : ℕ → ℕ → Machine → Machine
 bcerWrite i v m = cond (isOpen m i) (withBay i (controlledBay (hides m) (controlOf v) (settingOf m) (bayAt m i)) m) m
-
--- What a write does, by address.
-unfoldable pub writes : ℕ → Machine → List (Row Machine)
-writes v m =
-    at 0x0C (dbccrWrite v m)
-    ∷ at 0x10 (bstrWrite 0 v m)
-    ∷ at 0x14 (bcerWrite 0 v m)
-    ∷ at 0x18 (bstrWrite 1 v m)
-    ∷ at 0x1C (bcerWrite 1 v m)
-    ∷ at 0x40 (letrWrite v m)
-    ∷ at 0x42 (waitWrite v m)
-    ∷ []
-
--- A whole write. At every other address it is without effect.
-unfoldable pub written : ℕ → ℕ → Machine → Machine
-written a v m = find a (writes v m) m

@@ -1,4 +1,4 @@
-// What each act does to a machine (document 01).
+// What each act does to a machine (document 01; document 03, "Naming the kind" and "Registers").
 ghost use mathlib.Core.Path.{_≡_};
 ghost use mathlib.Core.Bool.{Bool, cond, true};
 ghost use Prim.Native.Nat.{ℕ};
@@ -6,16 +6,18 @@ ghost use Rattle.bay.specs.Debounce.{sampledBay};
 ghost use Rattle.bay.specs.Moves.{tickedBay, movedBay};
 ghost use Rattle.bay.specs.declared.Setting.{Setting};
 ghost use Rattle.machine.specs.Record.{bayIn};
-ghost use Rattle.machine.specs.Acts.{letrAfterReset, resetTo, pinsTo, nextPhase, restful, acted};
+ghost use Rattle.machine.specs.Acts.{lockAfterReset, letrAfterReset, countAfterReset, resetTo, nameTo, pinsTo, nextPhase, restful, acted};
 use crate::Act;
 use crate::Acted;
 use crate::Machine;
 use crate::Shared;
 use crate::record::is_open;
+use crate::setting::is_lit;
 use bay::Bay;
 use bay::Inputs;
 use bits::straps::lock_def;
 use bits::straps::lock_mode;
+use kind::Kind;
 
 // 199 is followed by 0.
 fn next_phase(phase: u8) -> u8
@@ -28,11 +30,32 @@ fn next_phase(phase: u8) -> u8
     }
 }
 
-// LETR after a RESET.
-fn letr_after_reset(short_pulse: bool) -> u8
-    ensures { λ r. ⌜ r ≡ letrAfterReset «short_pulse» ⌝ }
+// LOCK_CTL, LETR and the bay count after a RESET into this kind.
+fn lock_after_reset(kind: Kind, straps: u8) -> bool
+    ensures { λ r. ⌜ r ≡ lockAfterReset kind straps ⌝ }
 {
-    if short_pulse { 0 } else { 1 }
+    match kind {
+        Kind::First => lock_def(straps) & !lock_mode(straps),
+        Kind::Second => false,
+    }
+}
+
+fn letr_after_reset(kind: Kind, short_pulse: bool) -> u8
+    ensures { λ r. ⌜ r ≡ letrAfterReset kind «short_pulse» ⌝ }
+{
+    match kind {
+        Kind::First => { if short_pulse { 0 } else { 1 } }
+        Kind::Second => 0,
+    }
+}
+
+fn count_after_reset(kind: Kind) -> u8
+    ensures { λ r. ⌜ r ≡ countAfterReset kind ⌝ }
+{
+    match kind {
+        Kind::First => 0,
+        Kind::Second => 2,
+    }
 }
 
 // A bay after a pin sample, with its four levels. A closed bay is passed by.
@@ -43,7 +66,7 @@ fn sampled(open: bool, bay: Bay, levels: u8) -> Bay
 }
 
 // A bay after a tick, with its inputs. A closed bay is passed by.
-fn moved(open: bool, hides: bool, bay: Bay, ticks: u8, inputs: Inputs) -> Bay
+fn moved(open: bool, hides: bool, bay: Bay, ticks: u16, inputs: Inputs) -> Bay
     ensures { λ r. ⌜ r ≡ cond «open» (movedBay hides ticks bay (inputs .n1394) (inputs .nusb) (inputs .nremreq)) bay ⌝ }
 {
     if open {
@@ -62,15 +85,19 @@ fn rest(bays: [Bay; 2]) -> bool
 }
 
 impl Machine {
-    // Bay 0's levels are bits 7-4.
-    fn reset(straps: u8, levels: u8, short_pulse: bool) -> Machine
-        ensures { λ r. ⌜ r ≡ resetTo straps levels «short_pulse» ⌝ }
+    // The named kind comes into force. Bay 0's levels are bits 7-4.
+    fn reset(self, straps: u8, levels: u8, short_pulse: bool) -> Machine
+        ensures { λ r. ⌜ r ≡ resetTo straps levels «short_pulse» self ⌝ }
     {
-        let lock_ctl = lock_def(straps) & !lock_mode(straps);
+        let kind = self.named;
+        let lock_ctl = lock_after_reset(kind, straps);
         Machine {
             started: true,
             straps,
-            shared: Shared::unwritten(letr_after_reset(short_pulse)),
+            kind,
+            named: kind,
+            shared: Shared::unwritten(count_after_reset(kind), letr_after_reset(kind, short_pulse)),
+            second: self.second.reset(),
             phase: 0,
             bays: [
                 Bay::reset(levels / 16, lock_ctl),
@@ -79,15 +106,41 @@ impl Machine {
         }
     }
 
-    fn pins(self, levels: u8) -> Machine
-        ensures { λ r. ⌜ r ≡ pinsTo levels self ⌝ }
+    // The name stays for every later RESET; until one comes nothing else changes.
+    pub fn name(self, kind: Kind) -> Machine
+        ensures { λ r. ⌜ r ≡ nameTo kind self ⌝ }
     {
+        let in_force = self.kind;
         let shared = self.shared;
+        let second = self.second;
         let bays = self.bays;
         Machine {
             started: self.started,
             straps: self.straps,
+            kind: in_force,
+            named: kind,
             shared,
+            second,
+            phase: self.phase,
+            bays,
+        }
+    }
+
+    fn pins(self, levels: u8) -> Machine
+        ensures { λ r. ⌜ r ≡ pinsTo levels self ⌝ }
+    {
+        let kind = self.kind;
+        let named = self.named;
+        let shared = self.shared;
+        let second = self.second;
+        let bays = self.bays;
+        Machine {
+            started: self.started,
+            straps: self.straps,
+            kind,
+            named,
+            shared,
+            second,
             phase: self.phase,
             bays: [
                 bays[0].sampled(levels / 16),
@@ -100,7 +153,10 @@ impl Machine {
     fn tick(self) -> Acted
         ensures { λ r. ⌜ r ≡ acted Act.Tick self ⌝ }
     {
+        let kind = self.kind;
+        let named = self.named;
         let shared = self.shared;
+        let second = self.second;
         let bays = self.bays;
         let phase = next_phase(self.phase);
         if rest(bays) {
@@ -108,22 +164,28 @@ impl Machine {
                 machine: Machine {
                     started: self.started,
                     straps: self.straps,
+                    kind,
+                    named,
                     shared,
+                    second,
                     phase,
                     bays: [bays[0], bays[1]],
                 },
-                keeps: (self.phase < Machine::LIT) == (phase < Machine::LIT),
+                keeps: is_lit(kind, self.phase) == is_lit(kind, phase),
             };
         }
         let hides = self.hides();
-        let ticks = self.shared.wait_time;
+        let ticks = self.setting().wait_ticks;
         let first = bays[0].inputs();
-        let second = bays[1].inputs();
+        let other = bays[1].inputs();
         Acted {
             machine: Machine {
                 started: self.started,
                 straps: self.straps,
+                kind,
+                named,
                 shared,
+                second,
                 phase,
                 bays: [
                     bays[0].moved(hides, ticks, first),
@@ -132,7 +194,7 @@ impl Machine {
                         hides,
                         bays[1],
                         ticks,
-                        second,
+                        other,
                     ),
                 ],
             },
@@ -163,8 +225,12 @@ impl Machine {
                 levels,
                 short_pulse,
             } => Acted {
-                machine: Machine::reset(straps, levels, short_pulse),
+                machine: self.reset(straps, levels, short_pulse),
                 keeps: false,
+            },
+            Act::Name(kind) => Acted {
+                machine: self.name(kind),
+                keeps: true,
             },
         }
     }

@@ -5,6 +5,7 @@ ghost use Rattle.bay.specs.Outputs.{bayOutputs, interrupts};
 ghost use Rattle.machine.specs.Outputs.{outputs};
 use crate::Machine;
 use crate::record::is_open;
+use crate::setting::is_lit;
 use bay::Bay;
 use bay::Setting;
 
@@ -34,11 +35,12 @@ impl Machine {
         if !self.started {
             return 0;
         }
+        let kind = self.kind;
         let bays = self.bays;
         let open = is_open(self.shared.bay_count, 1);
         let hides = self.hides();
         let setting = self.setting();
-        let lit = self.phase < Machine::LIT;
+        let lit = is_lit(kind, self.phase);
         let both = bays[0].outputs(hides, setting, lit) as u16 * 32
             + nibble(open, bays[1], hides, setting, lit) as u16 * 2;
         if bays[0].interrupt() | wants(open, bays[1]) {

@@ -1,10 +1,12 @@
 // The machine's record: fresh, fit, and its bays by number.
 ghost use mathlib.Core.Path.{_≡_};
-ghost use Rattle.machine.specs.Record.{unwritten, freshMachine, fits, sharedFit, bayIn, openBy, hides, secured};
+ghost use Rattle.machine.specs.Record.{unwritten, freshMachine, mostPulse, mostWait, sharedFit, fits, bayIn, openBy};
 use crate::Machine;
 use crate::Shared;
 use bay::Bay;
 use bits::straps;
+use kind::Kind;
+use second::Second;
 
 impl Machine {
     // A machine before its first RESET.
@@ -14,50 +16,43 @@ impl Machine {
         Machine {
             started: false,
             straps: 0,
-            shared: Shared::unwritten(0),
+            kind: Kind::First,
+            named: Kind::First,
+            shared: Shared::unwritten(0, 0),
+            second: Second::fresh(),
             phase: 0,
             bays: [Bay::empty(), Bay::empty()],
         }
     }
 
-    // Whether a wait hides the device, in this kind of controller.
-    pub(crate) fn hides(self) -> bool
-        ensures { λ r. ⌜ r ≡ hides self ⌝ }
-    {
-        false
-    }
-
-    // Whether the security lock shows in BSTR.
-    pub(crate) fn secured(self) -> bool
-        ensures { λ r. ⌜ r ≡ secured self ⌝ }
-    {
-        true
-    }
-
-    // Whether each number of the record is one that the rules can make.
+    // Whether each number of the record is one that the rules of the kind in force can make.
     pub fn fit(self) -> bool
         ensures { λ r. ⌜ r ≡ fits self ⌝ }
     {
         let bays = self.bays;
+        let kind = self.kind;
+        let pulse = most_pulse(kind);
+        let wait = most_wait(kind);
         (self.phase < Machine::PHASES)
             & (self.straps <= straps::MOST)
             & self.shared.fit()
-            & bays[0].fit()
-            & bays[1].fit()
+            & self.second.fit()
+            & bays[0].fit(pulse, wait)
+            & bays[1].fit(pulse, wait)
     }
 }
 
 impl Shared {
-    // As a RESET leaves them, with this LETR.
-    pub(crate) fn unwritten(lock_time: u8) -> Shared
-        ensures { λ r. ⌜ r ≡ unwritten «lock_time» ⌝ }
+    // As a RESET leaves them, with this bay count and this LETR.
+    pub(crate) fn unwritten(bay_count: u8, lock_time: u8) -> Shared
+        ensures { λ r. ⌜ r ≡ unwritten «bay_count» «lock_time» ⌝ }
     {
         Shared {
-            dbccr_written: false,
-            seclock: false,
-            bay_count: 0,
-            lock_time,
             wait_time: 0,
+            bay_count,
+            dbccr_written: false,
+            lock_time,
+            seclock: false,
         }
     }
 
@@ -80,4 +75,23 @@ pub(crate) fn is_open(bay_count: u8, i: u8) -> bool
     ensures { λ r. ⌜ r ≡ openBy «bay_count» i ⌝ }
 {
     (i == 0) | !(bay_count == Shared::ONE_BAY)
+}
+
+// The longest pulse and the longest wait of a kind, in ticks.
+fn most_pulse(kind: Kind) -> u16
+    ensures { λ r. ⌜ r ≡ mostPulse kind ⌝ }
+{
+    match kind {
+        Kind::First => 200,
+        Kind::Second => 1200,
+    }
+}
+
+fn most_wait(kind: Kind) -> u16
+    ensures { λ r. ⌜ r ≡ mostWait kind ⌝ }
+{
+    match kind {
+        Kind::First => 255,
+        Kind::Second => 560,
+    }
 }

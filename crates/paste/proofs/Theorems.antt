@@ -15,37 +15,34 @@ use Rattle.script.specs.Arguments.{digitOf}
 use Rattle.script.proofs.OneWord.{OneWord}
 use Rattle.script.proofs.Theorems.{digit-back}
 use Rattle.dock.specs.declared.Controller.{Controller}
+use Rattle.second.specs.Record.{fits as secondFits}
 use Rattle.bay.specs.Record.{bayFit}
 use Rattle.machine.specs.Record.{bayIn, fits}
 use Rattle.image.specs.Layout.{BYTES}
-use Rattle.image.specs.Load.{numbersIn, firstOver, progressVerdict, sizedVerdict, verdictOn, stateIn, loadOf}
+use Rattle.image.specs.Load.{firstOver, progressVerdict, sizedVerdict, verdictOn, stateIn, loadOf}
 use Rattle.image.specs.Save.{saved}
-use Rattle.image.specs.Shape.{Shaped}
+pub use Rattle.image.specs.Shape.{Shaped, Octets}
 use Rattle.image.specs.declared.Verdict.{Verdict}
 use Rattle.image.specs.declared.Verdict.the-variants.{Whole, WrongLength, UnknownVersion, NotAFlag, UnknownProgress, NotUsed}
 use Rattle.image.proofs.RoundTrip.{saved-length, load-saved}
 use Rattle.paste.specs.Digits.{hexOf, leadingDigits, bytesOf}
 use Rattle.paste.specs.Findings.{isFit, findingOf, judged, unread, pastedOf}
 use Rattle.paste.specs.Examples.{Example, examples}
-use Rattle.paste.specs.Ranges.{lasts, firstOut}
+use Rattle.paste.specs.Ranges.{lasts, firstOut, outOf}
+use Rattle.paste.specs.declared.Out.{Out}
 use Rattle.paste.specs.declared.Finding.{Finding}
 use Rattle.paste.specs.declared.Finding.the-variants.{Fit}
 use Rattle.paste.specs.declared.Pasted.{Pasted}
 use Rattle.paste.proofs.Finding.is_fit.Reads as is-fit-reads
 use Rattle.paste.proofs.digits.write.Reads as write-reads
 use Rattle.paste.proofs.findings.read.Reads as read-reads
-use Rattle.paste.proofs.ranges.last.Reads as last-reads
 
 -- Each of the examples is what it is said to be.
 pub examples-hold : map (λ (e : Example). pastedOf (characters (e .pasted)) .finding) examples ≡ map (λ (e : Example). e .finding) examples
-unfolding examples pastedOf judged findingOf unread leadingDigits bytesOf digitOf firstOut loadOf verdictOn sizedVerdict progressVerdict firstOver stateIn fits bayIn bayFit
+unfolding examples pastedOf judged findingOf unread leadingDigits bytesOf digitOf lasts firstOut outOf loadOf verdictOn sizedVerdict progressVerdict firstOver stateIn fits secondFits bayIn bayFit
 examples-hold = refl
 
 -- ---- what is written is read as the same bytes
-
-abbrev pub Octets : List ℕ → Type 0
-Octets [] = Unit {0}
-Octets (b ∷ bs) = (b < 256) × Octets bs
 
 -- A digit that was written is one.
 digit-read : (n : ℕ) → digitOf (digitFor n) ≤ 15
@@ -67,8 +64,8 @@ same-bytes : (bs : List ℕ) → Octets bs → bytesOf (hexOf bs) ≡ bs
 unfolding bytesOf hexOf
 same-bytes [] all = refl
 same-bytes (b ∷ bs) all =
-    let whole : b / 16 % 16 * 16 + b % 16 ≡ b = omega (arith, all .0) in
-    rw (digit-back (b / 16), digit-back b, whole, same-bytes bs (all .1))
+    let whole : b / 16 % 16 * 16 + b % 16 ≡ b = omega (arith, all 0) in
+    rw (digit-back (b / 16), digit-back b, whole, same-bytes bs (λ i. all (suc i)))
 
 pub written-back : (bs : List ℕ) → Octets bs → length bs ≡ BYTES → pastedOf (hexOf bs) ≡ judged bs
 unfolding pastedOf
@@ -103,7 +100,7 @@ one-word (b ∷ bs) = (
 
 -- ---- what can be gone on from is fit
 
-fit-by : (v : Verdict) (fit : Bool) (out : ℕ) → isFit (findingOf v fit out) ≡ true → fit ≡ true
+fit-by : (v : Verdict) (fit : Bool) (out : Out) → isFit (findingOf v fit out) ≡ true → fit ≡ true
 unfolding isFit findingOf
 fit-by Whole true out e = refl
 fit-by Whole false out e = e
@@ -115,7 +112,7 @@ fit-by (NotUsed i) fit out e = absurd (true≢false (sym e))
 
 judged-fit : (bs : List ℕ) → isFit (judged bs .finding) ≡ true → fits (judged bs .controller .machine) ≡ true
 unfolding judged
-judged-fit bs e = fit-by (loadOf bs .verdict) (fits (loadOf bs .controller .machine)) (firstOut (numbersIn bs) lasts) e
+judged-fit bs e = fit-by (loadOf bs .verdict) (fits (loadOf bs .controller .machine)) (outOf (loadOf bs .controller .machine)) e
 
 pub accepted-is-fit : (t : List ℕ) → isFit (pastedOf t .finding) ≡ true → fits (pastedOf t .controller .machine) ≡ true
 unfolding pastedOf unread isFit
@@ -142,9 +139,6 @@ write-determined κs c r s p q = p ∙ sym q
 pub read-determined :
     (κs : _) (text : RefT (List ℕ)) (r s : Pasted) → read-reads.Post κs (text, tt) r (text, tt) → read-reads.Post κs (text, tt) s (text, tt) → r ≡ s
 read-determined κs text r s p q = p ∙ sym q
-
-pub last-determined : (κs : _) (place r s : ℕ) → last-reads.Post κs (place, tt) r (place, tt) → last-reads.Post κs (place, tt) s (place, tt) → r ≡ s
-last-determined κs place r s p q = p ∙ sym q
 
 pub is-fit-determined :
     (κs : _) (f : Finding) (r s : Bool) → is-fit-reads.Post κs (f, tt) r (f, tt) → is-fit-reads.Post κs (f, tt) s (f, tt) → r ≡ s

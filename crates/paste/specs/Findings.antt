@@ -8,11 +8,12 @@ use lib.ListN.{length, replicate}
 use Rattle.machine.specs.Record.{fits}
 use Rattle.dock.specs.Record.{freshController}
 use Rattle.image.specs.Layout.{BYTES}
-use Rattle.image.specs.Load.{numbersIn, loadOf}
+use Rattle.image.specs.Load.{loadOf}
 use Rattle.image.specs.declared.Verdict.{Verdict}
 use Rattle.image.specs.declared.Verdict.the-variants.{Whole, WrongLength, UnknownVersion, NotAFlag, UnknownProgress, NotUsed}
 use Rattle.paste.specs.Digits.{leadingDigits, bytesOf}
-use Rattle.paste.specs.Ranges.{lasts, firstOut}
+use Rattle.paste.specs.Ranges.{outOf}
+use Rattle.paste.specs.declared.Out.{Out}
 use Rattle.paste.specs.declared.Finding.{Finding}
 use Rattle.paste.specs.declared.Finding.the-variants.{Fit, NoDigit, OddDigit, OtherLength, NoImage, Unfit}
 use Rattle.paste.specs.declared.Pasted.{Pasted}
@@ -24,10 +25,10 @@ isFit (NoDigit n) = false
 isFit (OddDigit n) = false
 isFit (OtherLength n) = false
 isFit (NoImage v) = false
-isFit (Unfit i) = false
+isFit (Unfit o) = false
 
--- Bytes, by the verdict on them, whether their state is fit, and how many of its numbers come before the first out of its range.
-unfoldable pub findingOf : Verdict → Bool → ℕ → Finding
+-- Bytes, by the verdict on them, whether their state is fit, and its first number out of its range.
+unfoldable pub findingOf : Verdict → Bool → Out → Finding
 findingOf Whole fit out = cond fit Fit (Unfit out)
 findingOf WrongLength fit out = NoImage WrongLength
 findingOf UnknownVersion fit out = NoImage UnknownVersion
@@ -39,7 +40,7 @@ findingOf (NotUsed i) fit out = NoImage (NotUsed i)
 unfoldable pub judged : List ℕ → Pasted
 judged bytes =
     record {
-      finding = findingOf (loadOf bytes .verdict) (fits (loadOf bytes .controller .machine)) (firstOut (numbersIn bytes) lasts);
+      finding = findingOf (loadOf bytes .verdict) (fits (loadOf bytes .controller .machine)) (outOf (loadOf bytes .controller .machine));
       bytes = bytes;
       controller = loadOf bytes .controller;
     }

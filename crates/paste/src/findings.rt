@@ -3,10 +3,11 @@ ghost use mathlib.Core.Path.{_≡_};
 ghost use Rattle.paste.specs.Findings.{isFit, findingOf, unread, judged, pastedOf};
 use crate::DIGITS;
 use crate::Finding;
+use crate::Out;
 use crate::Pasted;
 use crate::digits::bytes_in;
 use crate::digits::count_digits;
-use crate::ranges::first_out;
+use crate::ranges::out_of;
 use dock::Controller;
 use image::Verdict;
 use image::load::load;
@@ -28,7 +29,7 @@ impl Finding {
 }
 
 // What bytes are, by the verdict on them, and whether their state is fit.
-fn finding_of(verdict: Verdict, fit: bool, out: usize) -> Finding
+fn finding_of(verdict: Verdict, fit: bool, out: Out) -> Finding
     ensures { λ r. ⌜ r ≡ findingOf verdict fit out ⌝ }
 {
     match verdict {
@@ -54,7 +55,7 @@ fn judged(bytes: [u8; image::BYTES]) -> Pasted
     let loaded = load(&bytes);
     let verdict = loaded.verdict;
     let controller = loaded.controller;
-    let out = first_out(&bytes[image::STRAPS..image::PROGRESS]);
+    let out = out_of(controller.machine);
     Pasted {
         finding: finding_of(verdict, controller.fit(), out),
         bytes,

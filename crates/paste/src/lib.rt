@@ -8,7 +8,6 @@ pub use digits::write;
 use dock::Controller;
 pub use findings::read;
 use image::Verdict;
-pub use ranges::last;
 
 // The digits of an image.
 pub const DIGITS: usize = 2 * image::BYTES;
@@ -25,8 +24,17 @@ pub enum Finding {
     OtherLength(usize),
     // As many bytes, and no image.
     NoImage(Verdict),
-    // The image of a state that isn't fit: the number at this place among the numbers is the first out of its range.
-    Unfit(usize),
+    // The image of a state that isn't fit: this number is the first out of its range.
+    Unfit(Out),
+}
+
+// A number that is out of its range.
+pub struct Out {
+    // Where it begins in the image: of a pulse and of a wait the place of the high byte.
+    pub at: usize,
+    pub value: u16,
+    // The largest that is fit.
+    pub last: u16,
 }
 
 pub struct Pasted {

@@ -1,3 +1,4 @@
 pub mod Passing
+pub mod Further
 pub mod OneWord
 pub mod Theorems

@@ -13,23 +13,28 @@ use Rattle.event.specs.Words.{unpacked}
 use Rattle.hex.specs.Digit.{digitFor}
 use Rattle.script.specs.Text.{characters, blank, leading, trimmed, first, rest, spelled, spelled64}
 use Rattle.script.specs.Verbs.{name, verbs, verbOf}
-use Rattle.script.specs.Arguments.{digitOf, isOctet, octetOf, wordOf, pairOf, countFrom, countOf, ticksOf}
+use Rattle.script.specs.Arguments.{digitOf, isOctet, octetOf, wordOf, pairOf, countFrom, countOf, ticksOf, isSmall, smallOf, furtherOf, followsAt, allFurther, furtherValues}
 use Rattle.script.specs.Hands.{only, bayOf, kindOf, pulls, raises, insertLine, handLine}
-use Rattle.script.specs.Lines.{given, resetLine, takeLine, writeLine, orderLine, verbLine, plain, argumentOf, textLine, lineOf}
-use Rattle.script.specs.Examples.{Example, examples, Argument, arguments}
+use Rattle.script.specs.Lines.{given, resetLine, takeLine, writeLine, span, readLine, orderLine, verbLine, plain, argumentOf, textLine, lineOf}
+use Rattle.script.specs.Examples.{Example, examples, Argument, arguments, Values, furthers}
 use Rattle.script.specs.declared.Line.{Line}
 use Rattle.script.proofs.arguments.digit.Reads as digit-reads
+use Rattle.script.proofs.arguments.further_value.Reads as further-reads
 use Rattle.script.proofs.lines.argument.Reads as argument-reads
 use Rattle.script.proofs.lines.meaning.Reads as meaning-reads
 
 -- Each of the examples means what it is said to mean.
 pub examples-hold : map (λ (e : Example). lineOf (characters (e .typed))) examples ≡ map (λ (e : Example). e .means) examples
-unfolding examples unpacked indexOf lineOf plain textLine verbLine orderLine handLine insertLine pulls raises only bayOf kindOf given resetLine takeLine writeLine octetOf isOctet digitOf wordOf pairOf ticksOf countOf countFrom verbOf verbs name spelled spelled64 trimmed first rest leading blank
+unfolding examples unpacked indexOf lineOf plain textLine verbLine orderLine handLine insertLine pulls raises only bayOf kindOf given resetLine takeLine writeLine span readLine furtherOf followsAt allFurther octetOf isOctet digitOf wordOf pairOf ticksOf isSmall smallOf countOf countFrom verbOf verbs name spelled spelled64 trimmed first rest leading blank
 examples-hold = refl
 
 pub arguments-hold : map (λ (a : Argument). argumentOf (characters (a .typed))) arguments ≡ map (λ (a : Argument). characters (a .word)) arguments
 unfolding arguments argumentOf indexOf plain trimmed first rest leading blank
 arguments-hold = refl
+
+pub furthers-hold : map (λ (v : Values). furtherValues (characters (v .typed)) (v .more)) furthers ≡ map (λ (v : Values). v .values) furthers
+unfolding furthers furtherValues furtherOf octetOf isOctet digitOf
+furthers-hold = refl
 
 -- ---- a verb is known by its number
 
@@ -101,6 +106,10 @@ meaning-determined κs line r s p q = p ∙ sym q
 
 pub digit-determined : (κs : _) (c : ℕ) (r s : ℕ) → digit-reads.Post κs (c, tt) r (c, tt) → digit-reads.Post κs (c, tt) s (c, tt) → r ≡ s
 digit-determined κs c r s p q = p .0 ∙ sym (q .0)
+
+pub further-determined :
+    (κs : _) (text : RefT (List ℕ)) (n r s : ℕ) → further-reads.Post κs (text, (n, tt)) r (text, (n, tt)) → further-reads.Post κs (text, (n, tt)) s (text, (n, tt)) → r ≡ s
+further-determined κs text n r s p q = p ∙ sym q
 
 -- Of a part of the line, what stands in it.
 pub argument-determined :

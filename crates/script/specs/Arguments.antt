@@ -1,8 +1,8 @@
 -- What a person types after a verb: bytes and words in hex, counts in decimal.
-use Prim.Native.Nat.{ℕ, _+_, _*_, _-_}
+use Prim.Native.Nat.{ℕ, zero, suc, _+_, _*_, _-_}
 use Prim.Native.Char.{Char, code}
-use mathlib.Core.Bool.{Bool, true, false, cond, _&&_}
-use mathlib.Core.List.{List, [], _∷_}
+use mathlib.Core.Bool.{Bool, true, false, cond, not, _&&_}
+use mathlib.Core.List.{List, [], _∷_, _++_}
 use lib.ListN.{length, getD, take, drop}
 use lib.Dec.{eqb, leb, ltb}
 use Rattle.script.specs.declared.Octet.{Octet}
@@ -42,16 +42,32 @@ wordOf t =
     (record { good = octetOf (take 2 t) .good && octetOf (drop 2 t) .good; value = octetOf (take 2 t) .value * 256 + octetOf (drop 2 t) .value })
     none
 
--- A register, `=` and a value.
-unfoldable pub pairOf : List ℕ → Pair
-pairOf t =
+-- Two bytes with a sign between them.
+unfoldable pub pairOf : ℕ → List ℕ → Pair
+pairOf sign t =
     cond (eqb (length t) 5)
     (record {
-      good = (eqb (getD t 2 0) (code "=") && octetOf (take 2 t) .good) && octetOf (drop 3 t) .good;
-      register = octetOf (take 2 t) .value;
-      value = octetOf (drop 3 t) .value;
+      good = (eqb (getD t 2 0) sign && octetOf (take 2 t) .good) && octetOf (drop 3 t) .good;
+      first = octetOf (take 2 t) .value;
+      second = octetOf (drop 3 t) .value;
     })
-    (record { good = false; register = 0; value = 0 })
+    (record { good = false; first = 0; second = 0 })
+
+-- The values of a write after its first, each after a comma: value n, and whether it is there.
+unfoldable pub furtherOf : List ℕ → ℕ → Octet
+furtherOf t n = octetOf (take 2 (drop (3 * n + 6) t))
+
+unfoldable pub followsAt : List ℕ → ℕ → Bool
+followsAt t n = eqb (getD t (3 * n + 5) 0) (code ",") && furtherOf t n .good
+
+-- So many of them are there, and what they are.
+unfoldable pub allFurther : List ℕ → ℕ → Bool
+allFurther t zero = true
+allFurther t (suc n) = allFurther t n && followsAt t n
+
+unfoldable pub furtherValues : List ℕ → ℕ → List ℕ
+furtherValues t zero = []
+furtherValues t (suc n) = furtherValues t n ++ (furtherOf t n .value ∷ [])
 
 -- Decimal digits, 65,535 at most.
 unfoldable pub countFrom : ℕ → List ℕ → Number
@@ -65,3 +81,10 @@ countOf t = countFrom 0 t
 -- A count, or nothing for 1.
 unfoldable pub ticksOf : List ℕ → Number
 ticksOf t = cond (eqb (length t) 0) (record { good = true; value = 1 }) (countOf t)
+
+-- A count that is a byte, as the number of a kind is.
+unfoldable pub isSmall : List ℕ → Bool
+isSmall t = (not (eqb (length t) 0) && countOf t .good) && leb (countOf t .value) 255
+
+unfoldable pub smallOf : List ℕ → Octet
+smallOf t = record { good = isSmall t; value = cond (isSmall t) (countOf t .value) 0 }

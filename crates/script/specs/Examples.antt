@@ -1,4 +1,5 @@
 -- Lines as a person types them, and what each means: one of each verb, of the hand's for both bays, then lines that are blank, unknown or misused.
+use Prim.Native.Nat.{ℕ}
 use Prim.Native.String.{String}
 use mathlib.Core.Bool.{true, false}
 use mathlib.Core.List.{List, [], _∷_}
@@ -23,6 +24,22 @@ pub record Argument : Type 0 where
 
 abbrev argument : String → String → Argument
 argument t w = record { typed = t; word = w }
+
+-- The values of a write after its first, by the word after `w`.
+pub record Values : Type 0 where
+  pub typed : String
+  pub more : ℕ
+  pub values : List ℕ
+
+abbrev values : String → ℕ → List ℕ → Values
+values t n vs = record { typed = t; more = n; values = vs }
+
+unfoldable pub furthers : List Values
+furthers =
+    values "14=04" 0 []
+    ∷ values "08=34,12,78" 2 (0x12 ∷ 0x78 ∷ [])
+    ∷ values "FC=40,01,02,03,fF" 4 (0x01 ∷ 0x02 ∷ 0x03 ∷ 0xFF ∷ [])
+    ∷ []
 
 unfoldable pub arguments : List Argument
 arguments =
@@ -65,8 +82,14 @@ examples =
     ∷ line "take ack" (Does (order.Event (event.Take true)))
     ∷ line "take nack" (Does (order.Event (event.Take false)))
     ∷ line "word 4090" (Does (order.Word 0x4090))
-    ∷ line "w 14=04" (Does (order.Write 0x14 0x04))
-    ∷ line "r 10" (Does (order.Read 0x10))
+    ∷ line "w 14=04" (Does (order.Write 0x14 0x04 0))
+    ∷ line "w 08=34,12,78" (Does (order.Write 0x08 0x34 2))
+    ∷ line "w fc=40,01,02,03,04" (Does (order.Write 0xFC 0x40 4))
+    ∷ line "r 10" (Does (order.Read 0x10 0))
+    ∷ line "r 08-0B" (Does (order.Read 0x08 3))
+    ∷ line "r ff-01" (Does (order.Read 0xFF 2))
+    ∷ line "r 10-10" (Does (order.Read 0x10 0))
+    ∷ line "r 10-0F" (Does (order.Read 0x10 255))
     ∷ line "at 96" (Does (order.Address 0x96))
     ∷ line "out" (Does order.Outputs)
     ∷ line "regs" (Does order.Registers)
@@ -74,7 +97,12 @@ examples =
     ∷ line "save" (Does order.Save)
     ∷ line "load 01" (Does order.Load)
     ∷ line "load zz  # told by the bench" (Does order.Load)
-    ∷ line "  w\t1C=8c  # a comment" (Does (order.Write 0x1C 0x8C))
+    ∷ line "kind 2" (Does (order.Name 2))
+    ∷ line "kind 1" (Does (order.Name 1))
+    ∷ line "kind 0" (Does (order.Name 0))
+    ∷ line "kind 255" (Does (order.Name 255))
+    ∷ line "kind 02  # the second" (Does (order.Name 2))
+    ∷ line "  w\t1C=8c  # a comment" (Does (order.Write 0x1C 0x8C 0))
     ∷ line "stop\r" (Does (order.Event event.Stop))
     ∷ line "" Blank
     ∷ line "   # w 14=04" Blank
@@ -84,6 +112,12 @@ examples =
     ∷ line "w 14:04" (Misused verb.W)
     ∷ line "w 14 =04" (Misused verb.W)
     ∷ line "w" (Misused verb.W)
+    ∷ line "w 14=04," (Misused verb.W)
+    ∷ line "w 14=04,1" (Misused verb.W)
+    ∷ line "w 14=04,12,3G" (Misused verb.W)
+    ∷ line "w 14=04;12" (Misused verb.W)
+    ∷ line "w 14=04, 12" (Misused verb.W)
+    ∷ line "w 14=04,,12" (Misused verb.W)
     ∷ line "reset 80BF" (Misused verb.Reset)
     ∷ line "reset BFFF" (Misused verb.Reset)
     ∷ line "reset E000" (Misused verb.Reset)
@@ -94,6 +128,10 @@ examples =
     ∷ line "tick A" (Misused verb.Tick)
     ∷ line "take yes" (Misused verb.Take)
     ∷ line "r 10 10" (Misused verb.R)
+    ∷ line "r 10-" (Misused verb.R)
+    ∷ line "r 10-1" (Misused verb.R)
+    ∷ line "r 10=11" (Misused verb.R)
+    ∷ line "r 10-11-12" (Misused verb.R)
     ∷ line "insert 0" (Mishandled hand.Insert)
     ∷ line "insert usb 0" (Mishandled hand.Insert)
     ∷ line "insert 0 usb 1394" (Mishandled hand.Insert)
@@ -105,4 +143,8 @@ examples =
     ∷ line "load" (Misused verb.Load)
     ∷ line "load # 01" (Misused verb.Load)
     ∷ line "load 01 00" (Misused verb.Load)
+    ∷ line "kind" (Misused verb.Kind)
+    ∷ line "kind 256" (Misused verb.Kind)
+    ∷ line "kind A" (Misused verb.Kind)
+    ∷ line "kind 1 2" (Misused verb.Kind)
     ∷ []

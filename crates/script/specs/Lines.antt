@@ -1,10 +1,10 @@
 -- What a line means: a verb, what it takes, and a comment after `#`.
-use Prim.Native.Nat.{ℕ}
+use Prim.Native.Nat.{ℕ, _+_, _*_, _-_, _/_, _%_}
 use Prim.Native.Char.{code}
 use mathlib.Core.Bool.{Bool, cond, not, _&&_, _||_}
 use mathlib.Core.List.{List}
 use lib.ListN.{length, take}
-use lib.Dec.{eqb}
+use lib.Dec.{eqb, ltb}
 use Rattle.bytes.specs.Bytes.{indexOf}
 use Rattle.event.specs.Words.{unpacked, isReset}
 use Rattle.event.specs.declared.Event.the-variants as event
@@ -12,12 +12,12 @@ use Rattle.event.specs.declared.Unpacked.{Unpacked}
 use Rattle.event.specs.declared.Unpacked.the-variants.{Accepted, StrayBit}
 use Rattle.script.specs.Text.{trimmed, first, rest, spelled64}
 use Rattle.script.specs.Verbs.{name, verbOf}
-use Rattle.script.specs.Arguments.{octetOf, wordOf, pairOf, ticksOf}
+use Rattle.script.specs.Arguments.{octetOf, wordOf, pairOf, ticksOf, smallOf, allFurther}
 use Rattle.script.specs.Hands.{handLine}
 use Rattle.script.specs.declared.Verb.{Verb}
-use Rattle.script.specs.declared.Verb.the-variants.{Reset, Pins, Tick, Timeout, Start, Stop, Byte, Take, Word, W, R, At, Out, Regs, Help, Save, Load}
+use Rattle.script.specs.declared.Verb.the-variants.{Reset, Pins, Tick, Timeout, Start, Stop, Byte, Take, Word, W, R, At, Out, Regs, Help, Save, Load, Kind}
 use Rattle.script.specs.declared.Order.{Order}
-use Rattle.script.specs.declared.Order.the-variants.{Event, Ticks, Word as AWord, Write, Read, Address, Outputs, Registers, Help as Verbs, Save as Saving, Load as Loading}
+use Rattle.script.specs.declared.Order.the-variants.{Event, Ticks, Word as AWord, Write, Read, Address, Outputs, Registers, Help as Verbs, Save as Saving, Load as Loading, Name}
 use Rattle.script.specs.declared.Line.{Line}
 use Rattle.script.specs.declared.Line.the-variants.{Blank, Unknown, Misused, Does}
 use Rattle.script.specs.declared.Named.{Named}
@@ -40,9 +40,31 @@ unfoldable pub takeLine : List ℕ → Line
 takeLine t =
     given Take (eqb (spelled64 t) (name "ack") || eqb (spelled64 t) (name "nack")) (Event (event.Take (eqb (spelled64 t) (name "ack"))))
 
--- `w` takes a register, `=` and a value.
+-- `w` takes a register, `=` and a value, five characters, and up to 255 values more, each of three.
+abbrev MOST-WRITE : ℕ
+MOST-WRITE = 5 + 3 * 255
+
+abbrev pub moreIn : List ℕ → ℕ
+moreIn t = (length t - 5) / 3
+
+abbrev pub isWrite : List ℕ → Bool
+isWrite t = (pairOf (code "=") (take 5 t) .good && eqb (length t % 3) 2) && allFurther t (moreIn t)
+
 unfoldable pub writeLine : List ℕ → Line
-writeLine t = given W (pairOf t .good) (Write (pairOf t .register) (pairOf t .value))
+writeLine t =
+    cond (ltb (length t) 5) (Misused W)
+    (cond (ltb MOST-WRITE (length t)) (Misused W)
+    (given W (isWrite t) (Write (pairOf (code "=") (take 5 t) .first) (pairOf (code "=") (take 5 t) .second) (moreIn t))))
+
+-- `r` takes a register, or the first and the last of several with `-` between them; FFh is followed by 00h.
+unfoldable pub span : ℕ → ℕ → ℕ
+span first last = (256 + last - first) % 256
+
+unfoldable pub readLine : List ℕ → Line
+readLine t =
+    cond (eqb (length t) 5)
+    (given R (pairOf (code "-") t .good) (Read (pairOf (code "-") t .first) (span (pairOf (code "-") t .first) (pairOf (code "-") t .second))))
+    (given R (octetOf t .good) (Read (octetOf t .value) 0))
 
 -- A verb that takes a byte, and one that takes nothing.
 abbrev octetLine : Verb → List ℕ → (ℕ → Order) → Line
@@ -63,13 +85,14 @@ orderLine Byte t = octetLine Byte t (λ n. Event (event.Byte n))
 orderLine Take t = takeLine t
 orderLine Word t = given Word (wordOf t .good) (AWord (wordOf t .value))
 orderLine W t = writeLine t
-orderLine R t = octetLine R t Read
+orderLine R t = readLine t
 orderLine At t = octetLine At t Address
 orderLine Out t = aloneLine Out t Outputs
 orderLine Regs t = aloneLine Regs t Registers
 orderLine Help t = aloneLine Help t Verbs
 orderLine Save t = aloneLine Save t Saving
 orderLine Load t = given Load (not (eqb (length t) 0)) Loading
+orderLine Kind t = given Kind (smallOf t .good) (Name (smallOf t .value))
 
 -- No verb takes more than one word.
 unfoldable pub verbLine : Verb → List ℕ → Line

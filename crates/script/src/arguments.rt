@@ -1,7 +1,7 @@
 // What a person types after a verb: bytes and words in hex, counts in decimal.
 ghost use mathlib.Core.Path.{_≡_};
 ghost use Prim.Native.Nat.{_≤_};
-ghost use Rattle.script.specs.Arguments.{digitOf, octetOf, wordOf, pairOf, countOf, ticksOf};
+ghost use Rattle.script.specs.Arguments.{digitOf, octetOf, wordOf, pairOf, countOf, ticksOf, smallOf, furtherOf, followsAt, allFurther};
 use crate::Number;
 use crate::Octet;
 use crate::Pair;
@@ -69,23 +69,23 @@ pub(crate) fn word(text: &[u8]) -> Number
     }
 }
 
-// A register, `=` and a value.
-pub(crate) fn pair(text: &[u8]) -> Pair
-    ensures { λ r. ⌜ r ≡ pairOf (now (text .entry)) ⌝ }
+// Two bytes with a sign between them.
+pub(crate) fn pair(sign: u8, text: &[u8]) -> Pair
+    ensures { λ r. ⌜ r ≡ pairOf sign (now (text .entry)) ⌝ }
 {
     if text.len() != 5 {
         return Pair {
             good: false,
-            register: 0,
-            value: 0,
+            first: 0,
+            second: 0,
         };
     }
-    let register = octet(&text[..2]);
-    let value = octet(&text[3..]);
+    let first = octet(&text[..2]);
+    let second = octet(&text[3..]);
     Pair {
-        good: (text[2] == b'=') & register.good & value.good,
-        register: register.value,
-        value: value.value,
+        good: (text[2] == sign) & first.good & second.good,
+        first: first.value,
+        second: second.value,
     }
 }
 
@@ -125,4 +125,68 @@ pub(crate) fn ticks(text: &[u8]) -> Number
         };
     }
     count(text)
+}
+
+// A count that is a byte.
+pub(crate) fn small(text: &[u8]) -> Octet
+    ensures { λ r. ⌜ r ≡ smallOf (now (text .entry)) ⌝ }
+{
+    let n = count(text);
+    if (text.len() != 0) & n.good & (n.value <= 255) {
+        Octet {
+            good: true,
+            value: n.value as u8,
+        }
+    } else {
+        Octet {
+            good: false,
+            value: 0,
+        }
+    }
+}
+
+// Value n of those that follow the first of a write: two hex digits after a comma.
+fn further(text: &[u8], n: u8) -> Octet
+    ensures { λ r. ⌜ r ≡ furtherOf (now (text .entry)) n ⌝ }
+{
+    let at = 3 * n as usize + 6;
+    let end = at + 2;
+    if text.len() < end {
+        return Octet {
+            good: false,
+            value: 0,
+        };
+    }
+    octet(&text[at..end])
+}
+
+// The comma and the value are there.
+fn follows(text: &[u8], n: u8) -> bool
+    ensures { λ r. ⌜ r ≡ followsAt (now (text .entry)) n ⌝ }
+{
+    let at = 3 * n as usize + 5;
+    if text.len() <= at {
+        return false;
+    }
+    (text[at] == b',') & further(text, n).good
+}
+
+// So many values follow.
+pub(crate) fn all_further(text: &[u8], more: u8) -> bool
+    ensures { λ r. ⌜ r ≡ allFurther (now (text .entry)) more ⌝ }
+{
+    let mut good = true;
+    let mut i: u8 = 0;
+    while i < more {
+        good = good & follows(text, i);
+        i += 1;
+    }
+    good
+}
+
+// Value n of those that follow the first of a write, 0 where there is none.
+pub fn further_value(text: &[u8], n: u8) -> u8
+    ensures { λ r. ⌜ r ≡ furtherOf (now (text .entry)) n .value ⌝ }
+{
+    further(text, n).value
 }

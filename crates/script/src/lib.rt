@@ -7,6 +7,7 @@ mod text;
 mod verbs;
 
 pub use arguments::digit;
+pub use arguments::further_value;
 use event::Event;
 pub use lines::argument;
 pub use lines::meaning;
@@ -30,6 +31,7 @@ pub enum Verb {
     Help,
     Save,
     Load,
+    Kind,
 }
 
 // The word that a line about a bay begins with: what a person does there.
@@ -54,10 +56,10 @@ pub enum Order {
     Ticks(u16),
     // A word as it is, also one that is refused.
     Word(u16),
-    // A whole write.
-    Write { register: u8, value: u8 },
-    // A whole read of a register.
-    Read(u8),
+    // A whole write: a value, and so many more that follow it in the line's `argument`.
+    Write { register: u8, value: u8, more: u8 },
+    // A whole read of a register, and of so many more after it.
+    Read { register: u8, more: u8 },
     // The host speaks to this address from now on.
     Address(u8),
     // Tell the outputs.
@@ -70,6 +72,8 @@ pub enum Order {
     Save,
     // Go on from the image whose digits are the line's `argument`.
     Load,
+    // Name a kind of controller by its number, also one that names none.
+    Name(u8),
 }
 
 // What a line means.
@@ -92,7 +96,7 @@ enum Named {
     Nothing,
 }
 
-// A text as a byte in hex, 0 where it isn't one.
+// A text as a byte, 0 where it isn't one.
 struct Octet {
     good: bool,
     value: u8,
@@ -104,9 +108,9 @@ struct Number {
     value: u16,
 }
 
-// A text as a register and a value.
+// A text as two bytes.
 struct Pair {
     good: bool,
-    register: u8,
-    value: u8,
+    first: u8,
+    second: u8,
 }

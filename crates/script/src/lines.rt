@@ -1,12 +1,14 @@
 // What a line means: a verb, what it takes, and a comment after `#`.
 ghost use mathlib.Core.Path.{_≡_};
-ghost use Rattle.script.specs.Lines.{given, resetLine, takeLine, writeLine, orderLine, verbLine, plain, argumentOf, lineOf};
+ghost use Rattle.script.specs.Lines.{given, resetLine, takeLine, writeLine, span, readLine, orderLine, verbLine, plain, argumentOf, lineOf};
 use crate::Line;
 use crate::Named;
 use crate::Order;
 use crate::Verb;
+use crate::arguments::all_further;
 use crate::arguments::octet;
 use crate::arguments::pair;
+use crate::arguments::small;
 use crate::arguments::ticks;
 use crate::arguments::word;
 use crate::hands::at_bay;
@@ -19,6 +21,14 @@ use crate::verbs::NACK;
 use crate::verbs::verb;
 use event::Event;
 use event::Unpacked;
+
+// The characters of two bytes with a sign between them, and of each value after that.
+const PAIR: usize = 5;
+
+const FURTHER: usize = 3;
+
+// The longest text of a write: so many values as there are registers.
+const MOST_WRITE: usize = PAIR + FURTHER * 255;
 
 // An order, where what follows its verb is what the verb takes.
 fn given(verb: Verb, good: bool, order: Order) -> Line
@@ -54,13 +64,53 @@ fn take(text: &[u8]) -> Line
     )
 }
 
+// A register, `=` and a value, and more values, each after a comma.
 fn write(text: &[u8]) -> Line
     ensures { λ r. ⌜ r ≡ writeLine (now (text .entry)) ⌝ }
 {
-    let p = pair(text);
-    let register = p.register;
-    let value = p.value;
-    given(Verb::W, p.good, Order::Write { register, value })
+    let length = text.len();
+    if length < PAIR {
+        return Line::Misused(Verb::W);
+    }
+    if MOST_WRITE < length {
+        return Line::Misused(Verb::W);
+    }
+    let p = pair(b'=', &text[..PAIR]);
+    let register = p.first;
+    let value = p.second;
+    let more = ((length - PAIR) / FURTHER) as u8;
+    let good = p.good & (length % FURTHER == PAIR % FURTHER) & all_further(text, more);
+    given(
+        Verb::W,
+        good,
+        Order::Write {
+            register,
+            value,
+            more,
+        },
+    )
+}
+
+// How many registers come after the first, up to the last; FFh is followed by 00h.
+fn span(first: u8, last: u8) -> u8
+    ensures { λ r. ⌜ r ≡ span first last ⌝ }
+{
+    ((256 + last as u16 - first as u16) % 256) as u8
+}
+
+// A register, or the first and the last with `-` between them.
+fn read(text: &[u8]) -> Line
+    ensures { λ r. ⌜ r ≡ readLine (now (text .entry)) ⌝ }
+{
+    if text.len() == PAIR {
+        let p = pair(b'-', text);
+        let register = p.first;
+        let more = span(register, p.second);
+        return given(Verb::R, p.good, Order::Read { register, more });
+    }
+    let one = octet(text);
+    let register = one.value;
+    given(Verb::R, one.good, Order::Read { register, more: 0 })
 }
 
 // A verb and the word after it, empty where there is none.
@@ -86,13 +136,17 @@ fn order(verb: Verb, text: &[u8]) -> Line
             given(verb, n.good, Order::Word(n.value))
         }
         Verb::W => write(text),
-        Verb::R => given(verb, byte.good, Order::Read(byte.value)),
+        Verb::R => read(text),
         Verb::At => given(verb, byte.good, Order::Address(byte.value)),
         Verb::Out => given(verb, alone, Order::Outputs),
         Verb::Regs => given(verb, alone, Order::Registers),
         Verb::Help => given(verb, alone, Order::Help),
         Verb::Save => given(verb, alone, Order::Save),
         Verb::Load => given(verb, !alone, Order::Load),
+        Verb::Kind => {
+            let n = small(text);
+            given(verb, n.good, Order::Name(n.value))
+        }
     }
 }
 

@@ -40,6 +40,8 @@ const SAVE: u64 = 0x65_76_61_73;
 
 const LOAD: u64 = 0x64_61_6F_6C;
 
+const KIND: u64 = 0x64_6E_69_6B;
+
 const INSERT: u64 = 0x74_72_65_73_6E_69;
 
 const REMOVE: u64 = 0x65_76_6F_6D_65_72;
@@ -85,6 +87,7 @@ pub(crate) fn verb(name: u64) -> Named
         HELP => Named::This(Verb::Help),
         SAVE => Named::This(Verb::Save),
         LOAD => Named::This(Verb::Load),
+        KIND => Named::This(Verb::Kind),
         INSERT => Named::AtBay(Hand::Insert),
         REMOVE => Named::AtBay(Hand::Remove),
         PRESS => Named::AtBay(Hand::Press),

@@ -124,10 +124,10 @@ pub pulsed-by : (s : Second) → (pulsed s ≡ true) ↔ (0 < sol s)
 unfolding pulsed
 pulsed-by s = (ltb-true 0 (sol s), lt-ltb 0 (sol s))
 
--- So of any byte a wait has 560 ticks at most, and a pulse 1200.
-pub most-wait : (s : Second) → s .sfr < 256 → waitTicks s ≤ 560
+-- So a wait has 560 ticks at most, and a pulse 1200.
+pub most-wait : (s : Second) → waitTicks s ≤ 560
 unfolding waitTicks
-most-wait s l = omega arith
+most-wait s = omega arith
 
 pub most-pulse : (s : Second) → pulseTicks s ≤ 1200
 unfolding pulseTicks

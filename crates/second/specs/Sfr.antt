@@ -6,7 +6,7 @@ use Rattle.bits.specs.Bits.{bit}
 use Rattle.second.specs.declared.Second.{Second}
 
 abbrev pub ito : Second → ℕ
-ito s = s .sfr / 32
+ito s = s .sfr / 32 % 8
 
 abbrev pub sol : Second → ℕ
 sol s = s .sfr / 2 % 16

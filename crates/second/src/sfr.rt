@@ -9,7 +9,7 @@ impl Second {
     pub fn wait_ticks(self) -> u16
         ensures { λ r. ⌜ r ≡ waitTicks self ⌝ }
     {
-        (self.sfr / 32) as u16 * Second::LONG
+        (self.sfr / 32 % 8) as u16 * Second::LONG
     }
 
     // The lock is pulsed where SOL is above 0.

@@ -5,6 +5,7 @@ use bus::Progress;
 use dock::Controller;
 use machine::Machine;
 use machine::Shared;
+use second::Second;
 
 fn kind(p: Progress) -> u8 {
     match p {
@@ -18,6 +19,11 @@ fn kind(p: Progress) -> u8 {
         } => 4,
         Progress::Again(_) => 5,
         Progress::Reading(_) => 6,
+        Progress::Writing(_) => 7,
+        Progress::Sending {
+            register: _,
+            value: _,
+        } => 8,
     }
 }
 
@@ -28,6 +34,8 @@ fn first(p: Progress) -> u8 {
         Progress::Data { register, value: _ } => register,
         Progress::Again(register) => register,
         Progress::Reading(value) => value,
+        Progress::Writing(register) => register,
+        Progress::Sending { register, value: _ } => register,
         _ => 0,
     }
 }
@@ -35,6 +43,7 @@ fn first(p: Progress) -> u8 {
 fn second(p: Progress) -> u8 {
     match p {
         Progress::Data { register: _, value } => value,
+        Progress::Sending { register: _, value } => value,
         _ => 0,
     }
 }
@@ -91,12 +100,53 @@ fn same_shared(a: Shared, b: Shared) -> bool {
         & (a.wait_time == b.wait_time)
 }
 
+fn same_four(a: [u8; Second::SUBSYSTEM], b: [u8; Second::SUBSYSTEM]) -> bool {
+    (a[0] == b[0]) & (a[1] == b[1]) & (a[2] == b[2]) & (a[3] == b[3])
+}
+
+fn same_flags(a: [bool; Second::SUBSYSTEM], b: [bool; Second::SUBSYSTEM]) -> bool {
+    (a[0] == b[0]) & (a[1] == b[1]) & (a[2] == b[2]) & (a[3] == b[3])
+}
+
+fn same_form_factors(a: Second, b: Second) -> bool {
+    let values = a.form_factors;
+    let written = a.form_factors_written;
+    let other_values = b.form_factors;
+    let other_written = b.form_factors_written;
+    (values[0] == other_values[0])
+        & (values[1] == other_values[1])
+        & (written[0] == other_written[0])
+        & (written[1] == other_written[1])
+}
+
+fn same_second(a: Second, b: Second) -> bool {
+    let values = a.subsystem;
+    let written = a.subsystem_written;
+    let other_values = b.subsystem;
+    let other_written = b.subsystem_written;
+    same_four(values, other_values)
+        & same_flags(written, other_written)
+        & same_form_factors(a, b)
+        & (a.sfr == b.sfr)
+        & (a.sfr_written == b.sfr_written)
+}
+
+fn same_kinds(a: Machine, b: Machine) -> bool {
+    let kind = a.kind;
+    let named = a.named;
+    let other_kind = b.kind;
+    let other_named = b.named;
+    (kind.is_second() == other_kind.is_second()) & (named.is_second() == other_named.is_second())
+}
+
 fn same_machine(a: Machine, b: Machine) -> bool {
     let bays = a.bays;
     let other_bays = b.bays;
     (a.started == b.started)
         & (a.straps == b.straps)
+        & same_kinds(a, b)
         & same_shared(a.shared, b.shared)
+        & same_second(a.second, b.second)
         & (a.phase == b.phase)
         & same_bay(bays[0], other_bays[0])
         & same_bay(bays[1], other_bays[1])

@@ -12,6 +12,13 @@ fn stepped(c: Controller, w: u16) -> Controller {
     s.controller
 }
 
+// A RESET word, to a fresh controller for which the second kind is named.
+pub(crate) fn second_reset(w: u16) -> Controller {
+    put(b"name 2, RESET ");
+    word(w);
+    stepped(Controller::fresh().name(2).controller, w)
+}
+
 // A RESET word, to a fresh controller.
 pub(crate) fn reset(w: u16) -> Controller {
     put(b"RESET ");

@@ -15,6 +15,7 @@ use events::byte;
 use events::event;
 use events::pins;
 use events::reset;
+use events::second_reset;
 use events::start;
 use events::stop;
 use events::take;
@@ -32,6 +33,7 @@ use show::word;
 use states::bay;
 use states::with_bay_count;
 use states::with_counts;
+use states::with_form_factors;
 use states::with_lock_time;
 use states::with_phase;
 use states::with_progress;
@@ -163,7 +165,7 @@ fn count_of_1394(c: Controller) {
     let b = bay(c, 0);
     let counts = b.counts;
     put(b", count ");
-    decimal(counts[Bay::N1394]);
+    decimal(counts[Bay::N1394] as u16);
 }
 
 fn count_running_at_rest() {
@@ -231,14 +233,14 @@ fn read_open_before_reset() {
 }
 
 // A field at its last fit value, and one past it.
-fn limit(name: &[u8], last: u8, fit: Controller, unfit: Controller) {
+fn limit(name: &[u8], last: u16, fit: Controller, unfit: Controller) {
     put(name);
     put(b" ");
     decimal(last);
     put(b",");
     event(fit, b"TICK", 0xA000);
     put(b"; ");
-    decimal(std::num::wrapping_add_u8(last, 1));
+    decimal(std::num::wrapping_add_u16(last, 1));
     answered(unfit, 0xA000);
     reads(unfit, 0x10);
     drives(unfit);
@@ -249,6 +251,7 @@ fn bay_limits(c: Controller, i: u8) {
     limit(b"state", 4, with_state(c, i, 4), with_state(c, i, 5));
     limit(b"request", 4, with_request(c, i, 4), with_request(c, i, 5));
     limit(b"pulse", 200, with_pulse(c, i, 200), with_pulse(c, i, 201));
+    limit(b"wait", 255, with_wait(c, i, 255), with_wait(c, i, 256));
     limit(
         b"count of 1394",
         9,
@@ -269,7 +272,18 @@ fn bay_limits(c: Controller, i: u8) {
     );
 }
 
-// 42h and a wait hold any byte.
+// With the second kind in force a pulse and a wait may be longer.
+fn second_limits(c: Controller, i: u8) {
+    limit(
+        b"pulse",
+        1200,
+        with_pulse(c, i, 1200),
+        with_pulse(c, i, 1201),
+    );
+    limit(b"wait", 560, with_wait(c, i, 560), with_wait(c, i, 561));
+}
+
+// 42h holds any byte.
 fn any_wait(c: Controller) {
     put(b"wait 255 of either bay and of 42h,");
     let d = with_wait(with_wait(c, 0, 255), 1, 255);
@@ -284,6 +298,18 @@ fn limits(c: Controller) {
     limit(b"straps", 15, with_straps(c, 15), with_straps(c, 16));
     limit(b"lock time", 3, with_lock_time(c, 3), with_lock_time(c, 4));
     limit(b"bay count", 3, with_bay_count(c, 3), with_bay_count(c, 4));
+    limit(
+        b"form factor of bay 0",
+        7,
+        with_form_factors(c, 7, 0),
+        with_form_factors(c, 8, 0),
+    );
+    limit(
+        b"form factor of bay 1",
+        7,
+        with_form_factors(c, 0, 7),
+        with_form_factors(c, 0, 8),
+    );
     put(b"bay 0:\n");
     bay_limits(c, 0);
     put(b"bay 1:\n");
@@ -319,4 +345,10 @@ fn main() {
     read_open_before_reset();
     put(b"Each field of started at its last fit value, and one past it\n");
     limits(c);
+    put(b"The same of ");
+    let d = second_reset(0xC0BF);
+    put(b"\nbay 0:\n");
+    second_limits(d, 0);
+    put(b"bay 1:\n");
+    second_limits(d, 1);
 }

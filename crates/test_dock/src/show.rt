@@ -13,7 +13,7 @@ pub(crate) fn line() {
     put(b"\n");
 }
 
-pub(crate) fn decimal(n: u8) {
+pub(crate) fn decimal(n: u16) {
     io::print_decimal(OUT, n as u64);
 }
 
@@ -48,11 +48,11 @@ pub(crate) fn reply(a: Answer) {
     let refusal = a.refusal();
     if refusal > 0 {
         put(b" refused ");
-        decimal(refusal);
+        decimal(refusal as u16);
         return;
     }
     put(b"(");
-    decimal(a.reply());
+    decimal(a.reply() as u16);
     if a.reply() > 2 {
         put(b" ");
         hex(a.byte());
@@ -63,9 +63,9 @@ pub(crate) fn reply(a: Answer) {
 // The four numbers of an answer.
 pub(crate) fn answer(a: Answer) {
     put(b": ");
-    decimal(a.refusal());
+    decimal(a.refusal() as u16);
     put(b" ");
-    decimal(a.reply());
+    decimal(a.reply() as u16);
     put(b" ");
     hex(a.byte());
     put(b" ");
@@ -88,7 +88,7 @@ pub(crate) fn reads(c: Controller, address: u8) {
     let refusal = t.refusal();
     if refusal > 0 {
         put(b"h refused ");
-        decimal(refusal);
+        decimal(refusal as u16);
         put(b" with ");
     } else {
         put(b"h reads ");
@@ -104,7 +104,7 @@ pub(crate) fn drives(c: Controller) {
     let refusal = t.refusal();
     if refusal > 0 {
         put(b"refused ");
-        decimal(refusal);
+        decimal(refusal as u16);
         put(b" with ");
     }
     three(t.value());

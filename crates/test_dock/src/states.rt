@@ -28,6 +28,15 @@ pub(crate) fn with_bay_count(mut c: Controller, bay_count: u8) -> Controller {
     c
 }
 
+pub(crate) fn with_form_factors(c: Controller, bay_0: u8, bay_1: u8) -> Controller {
+    let mut machine = c.machine;
+    let progress = c.progress;
+    let mut second = machine.second;
+    second.form_factors = [bay_0, bay_1];
+    machine.second = second;
+    Controller { machine, progress }
+}
+
 pub(crate) fn bay(c: Controller, i: u8) -> Bay {
     let bays = c.machine.bays;
     if i == 0 { bays[0] } else { bays[1] }
@@ -56,13 +65,13 @@ pub(crate) fn with_request(c: Controller, i: u8, request: u8) -> Controller {
     with_bay(c, i, b)
 }
 
-pub(crate) fn with_pulse(c: Controller, i: u8, pulse: u8) -> Controller {
+pub(crate) fn with_pulse(c: Controller, i: u8, pulse: u16) -> Controller {
     let mut b = bay(c, i);
     b.pulse = pulse;
     with_bay(c, i, b)
 }
 
-pub(crate) fn with_wait(c: Controller, i: u8, wait: u8) -> Controller {
+pub(crate) fn with_wait(c: Controller, i: u8, wait: u16) -> Controller {
     let mut b = bay(c, i);
     b.wait = wait;
     with_bay(c, i, b)

@@ -64,20 +64,26 @@ flatten-one [] l = append-nil l
 flatten-one (k ∷ ls) l = ap (λ r. k ++ r) (flatten-one ls l) ∙ sym (append-assoc k (flatten ls) l)
 
 -- The trace and the text are those of one piece that is the whole input so far.
-as-one-piece :
-    {pieces texts : List (List ℕ)} {t : Trace} → Called pieces texts t
-    → (t ≡ traceFed fresh (flatten pieces)) × (flatten texts ≡ header ++ linesFed fresh (flatten pieces))
-unfolding flatten
-as-one-piece (begin κs output left r p) =
-    let says = begin-says κs output left r p in
-    (says .0 ∙ sym (trace-none fresh), rw (lines-none fresh) (ap (λ l. l ++ []) (says .1)))
-as-one-piece (feed {pieces} {texts} {t} κs input output left r c p) =
-    let says = feed-says κs t input output left r p in
-    let before = as-one-piece c in (
+abbrev AsOnePiece : List (List ℕ) → List (List ℕ) → Trace → Type 0
+AsOnePiece pieces texts t = (t ≡ traceFed fresh (flatten pieces)) × (flatten texts ≡ header ++ linesFed fresh (flatten pieces))
+
+one-more :
+    (pieces texts : List (List ℕ)) (t : Trace) → AsOnePiece pieces texts t
+    → (κs : _) (input output left : RefT (List ℕ)) (r : Fed) → feed-call.Post κs (t, (input, (output, tt))) r (t, (input, (left, tt)))
+    → AsOnePiece (pieces ++ (now input ∷ [])) (texts ++ (take (r .length) (now left) ∷ [])) (r .trace)
+one-more pieces texts t before κs input output left r p =
+    let says = feed-says κs t input output left r p in (
       says .0 ∙ rw (before .0, flatten-one pieces, trace-append fresh (flatten pieces) (now input)),
       flatten-one texts (take (r .length) (now left))
           ∙ rw (says .1, before .1, before .0, flatten-one pieces, lines-cut fresh (flatten pieces) (now input), append-assoc),
     )
+
+as-one-piece : {pieces texts : List (List ℕ)} {t : Trace} → Called pieces texts t → AsOnePiece pieces texts t
+unfolding flatten
+as-one-piece (begin κs output left r p) =
+    let says = begin-says κs output left r p in
+    (says .0 ∙ sym (trace-none fresh), rw (lines-none fresh) (ap (λ l. l ++ []) (says .1)))
+as-one-piece (feed {pieces} {texts} {t} κs input output left r c p) = one-more pieces texts t (as-one-piece c) κs input output left r p
 
 -- After each piece, the header and a line for each word that is whole by then, in order: nothing is kept back.
 pub told-at-once :

@@ -6,7 +6,7 @@ use Rattle.bay.proofs.Bay.fit.Tie as tie
 
 returns : tie.Need-returns
 unfolding bayFit
-returns c = rw (c .before .before .before .counts-fit .ensures)
+returns c = rw (c .before .before .before .before .counts-fit .ensures)
 
 pub fit-spec : {M : Type 1} → statement M
 fit-spec = tie.close (tie.spec (λ c κs. search needs) returns)

@@ -57,6 +57,10 @@ returns-13 : tie.Need-returns-13
 unfolding obeyed wordsOf afterWords
 returns-13 c = rw (c .before .enum-told5 .given .1, c .load .ensures)
 
+returns-14 : tie.Need-returns-14
+unfolding obeyed wordsOf afterWords
+returns-14 c = rw (c .before .before .order9 .given .1, c .name .ensures)
+
 pub obey-spec : {M : Type 1} → statement M
 obey-spec =
     tie.close
@@ -93,6 +97,8 @@ obey-spec =
     (λ c κs. search needs)
     (λ c. search needs)
     (λ c κs. search needs)
+    (λ c. search needs)
+    (λ c κs. search needs)
     returns
     returns-2
     returns-3
@@ -105,4 +111,5 @@ obey-spec =
     returns-10
     returns-11
     returns-12
-    returns-13)
+    returns-13
+    returns-14)

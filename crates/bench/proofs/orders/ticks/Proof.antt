@@ -7,7 +7,7 @@ use lib.ListN.{replicate}
 use Rattle.event.specs.declared.Event.the-variants.{Tick}
 use Rattle.bench.specs.Orders.{wordFor, afterWords}
 use Rattle.bench.specs.declared.Sent.{Sent}
-use Rattle.bench.proofs.Ticks.{once-more}
+use Rattle.bench.proofs.InTurn.{once-more}
 use borrow.Author.Needs.{needs}
 use Rattle.bench.proofs.orders.ticks.Statement.{statement}
 use Rattle.bench.proofs.orders.ticks.Tie as tie

@@ -18,23 +18,23 @@ returns-3 c = rw (c .before .before .event .given .1) (c .byte .ensures)
 
 returns-4 : tie.Need-returns-4
 unfolding turnOf
-returns-4 c = rw (c .before .enum-told3 .given .1) (c .take .ensures)
+returns-4 c = rw (c .before .before .event2 .given .1) (c .take .ensures)
 
 returns-5 : tie.Need-returns-5
 unfolding turnOf
-returns-5 c = rw (c .before .before .event2 .given .1) (c .decided .ensures)
+returns-5 c = rw (c .before .before .event3 .given .1) (c .decided .ensures)
 
 returns-6 : tie.Need-returns-6
 unfolding turnOf
-returns-6 c = rw (c .before .enum-told4 .given .1) (c .decided2 .ensures)
+returns-6 c = rw (c .before .enum-told3 .given .1) (c .decided2 .ensures)
 
 returns-7 : tie.Need-returns-7
 unfolding turnOf
-returns-7 c = rw (c .before .before .event3 .given .1) (c .decided3 .ensures)
+returns-7 c = rw (c .before .before .event4 .given .1) (c .decided3 .ensures)
 
 returns-8 : tie.Need-returns-8
 unfolding turnOf
-returns-8 c = rw (c .before .enum-told5 .given .1) (c .ended .ensures)
+returns-8 c = rw (c .before .enum-told4 .given .1) (c .ended .ensures)
 
 pub turn-spec : {M : Type 1} → statement M
 turn-spec =

@@ -25,20 +25,32 @@ returns-5 c = rw (c .match .keys5)
 returns-6 : tie.Need-returns-6
 returns-6 c = rw (c .match .keys6)
 
--- A number past the table's, or 0, has no command open.
-none : (a b k : ℕ) → (k ≡ 1 → ⊥) → (k ≡ 2 → ⊥) → (k ≡ 3 → ⊥) → (k ≡ 4 → ⊥) → (k ≡ 5 → ⊥) → (k ≡ 6 → ⊥) → progressBy k a b ≡ Idle
-none a b zero n1 n2 n3 n4 n5 n6 = refl
-none a b (suc zero) n1 n2 n3 n4 n5 n6 = absurd (n1 refl)
-none a b (suc (suc zero)) n1 n2 n3 n4 n5 n6 = absurd (n2 refl)
-none a b (suc (suc (suc zero))) n1 n2 n3 n4 n5 n6 = absurd (n3 refl)
-none a b (suc (suc (suc (suc zero)))) n1 n2 n3 n4 n5 n6 = absurd (n4 refl)
-none a b (suc (suc (suc (suc (suc zero))))) n1 n2 n3 n4 n5 n6 = absurd (n5 refl)
-none a b (suc (suc (suc (suc (suc (suc zero)))))) n1 n2 n3 n4 n5 n6 = absurd (n6 refl)
-none a b (suc (suc (suc (suc (suc (suc (suc k))))))) n1 n2 n3 n4 n5 n6 = refl
-
 returns-7 : tie.Need-returns-7
-returns-7 c = let r = c .match .rest in sym (none _ _ _ (r .0 .0 .0 .0 .0 .1) (r .0 .0 .0 .0 .1) (r .0 .0 .0 .1) (r .0 .0 .1) (r .0 .1) (r .1))
+returns-7 c = rw (c .match .keys7)
+
+returns-8 : tie.Need-returns-8
+returns-8 c = rw (c .match .keys8)
+
+-- A number past the table's, or 0, has no command open.
+none :
+    (a b k : ℕ) → (k ≡ 1 → ⊥) → (k ≡ 2 → ⊥) → (k ≡ 3 → ⊥) → (k ≡ 4 → ⊥) → (k ≡ 5 → ⊥) → (k ≡ 6 → ⊥) → (k ≡ 7 → ⊥) → (k ≡ 8 → ⊥)
+    → progressBy k a b ≡ Idle
+none a b zero n1 n2 n3 n4 n5 n6 n7 n8 = refl
+none a b (suc zero) n1 n2 n3 n4 n5 n6 n7 n8 = absurd (n1 refl)
+none a b (suc (suc zero)) n1 n2 n3 n4 n5 n6 n7 n8 = absurd (n2 refl)
+none a b (suc (suc (suc zero))) n1 n2 n3 n4 n5 n6 n7 n8 = absurd (n3 refl)
+none a b (suc (suc (suc (suc zero)))) n1 n2 n3 n4 n5 n6 n7 n8 = absurd (n4 refl)
+none a b (suc (suc (suc (suc (suc zero))))) n1 n2 n3 n4 n5 n6 n7 n8 = absurd (n5 refl)
+none a b (suc (suc (suc (suc (suc (suc zero)))))) n1 n2 n3 n4 n5 n6 n7 n8 = absurd (n6 refl)
+none a b (suc (suc (suc (suc (suc (suc (suc zero))))))) n1 n2 n3 n4 n5 n6 n7 n8 = absurd (n7 refl)
+none a b (suc (suc (suc (suc (suc (suc (suc (suc zero)))))))) n1 n2 n3 n4 n5 n6 n7 n8 = absurd (n8 refl)
+none a b (suc (suc (suc (suc (suc (suc (suc (suc (suc k))))))))) n1 n2 n3 n4 n5 n6 n7 n8 = refl
+
+returns-9 : tie.Need-returns-9
+returns-9 c =
+    let r = c .match .rest in
+    sym (none _ _ _ (r .0 .0 .0 .0 .0 .0 .0 .1) (r .0 .0 .0 .0 .0 .0 .1) (r .0 .0 .0 .0 .0 .1) (r .0 .0 .0 .0 .1) (r .0 .0 .0 .1) (r .0 .0 .1) (r .0 .1) (r .1))
 
 pub progress-from-spec : {M : Type 1} → statement M
 progress-from-spec =
-    tie.close (tie.spec returns returns-2 returns-3 returns-4 returns-5 returns-6 returns-7)
+    tie.close (tie.spec returns returns-2 returns-3 returns-4 returns-5 returns-6 returns-7 returns-8 returns-9)

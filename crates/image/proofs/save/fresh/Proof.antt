@@ -1,5 +1,6 @@
 -- `image::save::fresh` meets its contract: the definition comes to these bytes. Assumes nothing.
 use mathlib.Core.Path.{refl}
+use Rattle.second.specs.Record.{fresh}
 use Rattle.bay.specs.Record.{emptyBay}
 use Rattle.machine.specs.Record.{freshMachine}
 use Rattle.dock.specs.Record.{freshController}
@@ -9,7 +10,7 @@ use Rattle.image.proofs.save.fresh.Statement.{statement}
 use Rattle.image.proofs.save.fresh.Tie as tie
 
 returns : tie.Need-returns
-unfolding saved progressBytes freshController freshMachine emptyBay
+unfolding saved progressBytes freshController freshMachine fresh emptyBay
 returns c = refl
 
 pub fresh-spec : {M : Type 1} → statement M

@@ -1,7 +1,6 @@
 -- `image::save::progress_bytes` meets its contract: each arm is given which command it is. Assumes nothing.
 use borrow.Author.Needs.{needs}
 use Rattle.image.specs.Save.{progressBytes}
-use borrow.Author.Needs.{needs}
 use Rattle.image.proofs.save.progress_bytes.Statement.{statement}
 use Rattle.image.proofs.save.progress_bytes.Tie as tie
 
@@ -33,10 +32,20 @@ returns-7 : tie.Need-returns-7
 unfolding progressBytes
 returns-7 c = rw (c .before .progress4 .given .1)
 
+returns-8 : tie.Need-returns-8
+unfolding progressBytes
+returns-8 c = rw (c .before .progress5 .given .1)
+
+returns-9 : tie.Need-returns-9
+unfolding progressBytes
+returns-9 c = rw (c .before .progress6 .given .1)
+
 pub progress-bytes-spec : {M : Type 1} → statement M
 progress-bytes-spec =
     tie.close
     (tie.spec
+    (λ c. search needs)
+    (λ c. search needs)
     (λ c. search needs)
     (λ c. search needs)
     (λ c. search needs)
@@ -50,4 +59,6 @@ progress-bytes-spec =
     returns-4
     returns-5
     returns-6
-    returns-7)
+    returns-7
+    returns-8
+    returns-9)

@@ -1,11 +1,15 @@
 -- `image::save::save` meets its contract: its bytes are the definition's, in order. Assumes nothing.
-use borrow.Author.Needs.{needs}
 use Rattle.image.proofs.Bytes.{put-together}
+use borrow.Author.Needs.{needs}
 use Rattle.image.proofs.save.save.Statement.{statement}
 use Rattle.image.proofs.save.save.Tie as tie
 
 returns : tie.Need-returns
-returns c = rw (c .before .before .before .before .before .before .before .before .before .before .before .before .before .before .before .before .before .before .before .before .before .progress-bytes .ensures) (put-together (c .before .before .before .before .before .before .before .before .before .before .before .before .before .before .before .before .before .before .before .before .before .before .before .before .before .before .before .args .controller))
+returns c =
+    let parts = c .before .before .before .before .before .before .before .before .before .before .before .before .before .before .before .before .before .before .before .before .before .before .before .before .before .before .before .before .before .before .before .before .before in
+    put-together (parts .before .before .before .before .before .before .before .before .before .before .before .before .before .args .controller) _ _ _ _ _ _ _ (parts .before .before .before .before .before .before .is-second .ensures) (parts .before .before .before .before .before .is-second2 .ensures)
+    (parts .before .before .before .before .two-bytes .ensures) (parts .before .before .before .two-bytes2 .ensures) (parts .before .before .two-bytes3 .ensures) (parts .before .two-bytes4 .ensures)
+    (parts .progress-bytes .ensures)
 
 pub save-spec : {M : Type 1} → statement M
 save-spec =
@@ -14,6 +18,41 @@ save-spec =
     (λ c. search needs)
     (λ c. search needs)
     (λ c κs. search needs)
+    (λ c κs. search needs)
+    (λ c κs. search needs)
+    (λ c κs. search needs)
+    (λ c κs. search needs)
+    (λ c κs. search needs)
+    (λ c κs. search needs)
+    (λ c. search needs)
+    (λ c. search needs)
+    (λ c. search needs)
+    (λ c. search needs)
+    (λ c. search needs)
+    (λ c. search needs)
+    (λ c. search needs)
+    (λ c. search needs)
+    (λ c. search needs)
+    (λ c. search needs)
+    (λ c. search needs)
+    (λ c. search needs)
+    (λ c. search needs)
+    (λ c. search needs)
+    (λ c. search needs)
+    (λ c. search needs)
+    (λ c. search needs)
+    (λ c. search needs)
+    (λ c. search needs)
+    (λ c. search needs)
+    (λ c. search needs)
+    (λ c. search needs)
+    (λ c. search needs)
+    (λ c. search needs)
+    (λ c. search needs)
+    (λ c. search needs)
+    (λ c. search needs)
+    (λ c. search needs)
+    (λ c. search needs)
     (λ c. search needs)
     (λ c. search needs)
     (λ c. search needs)

@@ -2,9 +2,11 @@
 use mathlib.Core.Path.{_∙_, ap}
 use mathlib.Core.List.{[], _∷_}
 use lib.ListN.{length}
+use native.Mathlib.Omega.{arith}
 use denote.Ref.{now}
 use Rattle.bus.proofs.Cases.{found}
 use Rattle.batch.specs.Batch.{batchOf, bufferAfter}
+use Rattle.image.specs.Shape.{Octets}
 use Rattle.image.proofs.Whole.{no-image, is-image, image-whole}
 use Rattle.image.proofs.RoundTrip.{parts, saved-length}
 use Rattle.link.proofs.Ran.{ran-nothing, ran, ran-refused}
@@ -26,7 +28,8 @@ returns-2 c =
     let l = c .before .before .before .before .before .before .before .load in
     let b = c .before .before .before .batch in
     let w = is-image (now (a .state)) (l .result) (l .ensures) (c .before .before .before .before .before .enum-told .given .1) in
-    let t = ran-refused (now (a .state)) (now (a .words)) (now (a .records)) (w .0) (b .result) (b .ensures .0 ∙ ap (λ s. batchOf s (now (a .words)) (length (now (a .records)))) (w .1)) (found (1 ∷ 2 ∷ 3 ∷ []) _ (c .match2 .keys2)) in
+    let o : Octets (now (a .state)) = λ i. omega (arith, c .before .before .before .before .before .before .before .before .before .before .before .slice-known .given i) in
+    let t = ran-refused (now (a .state)) (now (a .words)) (now (a .records)) (w .0) (b .result) (b .ensures .0 ∙ ap (λ s. batchOf s (now (a .words)) (length (now (a .records)))) (w .1)) o (found (1 ∷ 2 ∷ 3 ∷ []) _ (c .match2 .keys2)) in
     (t .0, (t .1, b .ensures .1 ∙ ap (λ s. bufferAfter s (now (a .words)) (now (a .records))) (w .1) ∙ t .2))
 
 put-requires : tie.Need-put-requires

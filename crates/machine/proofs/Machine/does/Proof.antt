@@ -24,6 +24,10 @@ returns-5 : tie.Need-returns-5
 unfolding does keeps
 returns-5 c = rw (c .before .before .act3 .given .1, c .reset .ensures)
 
+returns-6 : tie.Need-returns-6
+unfolding does keeps
+returns-6 c = rw (c .before .before .act4 .given .1, c .name .ensures)
+
 pub does-spec : {M : Type 1} → statement M
 does-spec =
     tie.close
@@ -37,8 +41,11 @@ does-spec =
     (λ c κs. search needs)
     (λ c. search needs)
     (λ c κs. search needs)
+    (λ c. search needs)
+    (λ c κs. search needs)
     returns
     returns-2
     returns-3
     returns-4
-    returns-5)
+    returns-5
+    returns-6)

@@ -6,7 +6,14 @@ use Rattle.machine.proofs.Machine.fresh.Tie as tie
 
 returns : tie.Need-returns
 unfolding freshMachine
-returns c = rw (c .before .empty .ensures, c .empty2 .ensures, c .before .before .unwritten .ensures)
+returns c = rw (c .before .empty .ensures, c .empty2 .ensures, c .before .before .before .unwritten .ensures, c .before .before .fresh .ensures)
 
 pub fresh-spec : {M : Type 1} → statement M
-fresh-spec = tie.close (tie.spec (λ c κs. search needs) (λ c κs. search needs) (λ c κs. search needs) returns)
+fresh-spec =
+    tie.close
+    (tie.spec
+    (λ c κs. search needs)
+    (λ c κs. search needs)
+    (λ c κs. search needs)
+    (λ c κs. search needs)
+    returns)

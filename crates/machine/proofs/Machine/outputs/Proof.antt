@@ -15,23 +15,22 @@ returns c = rw (passed (not-true (c .before .before .args .self .started) (c .if
 
 returns-2 : tie.Need-returns-2
 unfolding outputs nibble wants bayIn openBy
-returns-2 c =
-    let begun = c .before .before .before .before .before .before .before .before .before .before .before .before .before .before in
+returns-2 c = let begun = c .before .before .before .before .before .before .before .before .before .before .before .before .before .before in
     let set = c .before .before .before .before .before .before .before .before .before .before in
-    rw (chosen (not-false (begun .before .before .args .self .started) (begun .if1 .left)), c .before .before .before .before .before .before .before .outputs .ensures, c .before .before .before .before .before .nibble .ensures, set .setting .ensures, set .before .hides .ensures, ← set .before .before .is-open .ensures, ← c .before .before .before .interrupt .ensures, ← c .before .wants .ensures, c .if2 .taken)
+    rw (chosen (not-false (begun .before .before .args .self .started) (begun .if1 .left)), c .before .before .before .before .before .before .before .outputs .ensures, c .before .before .before .before .before .nibble .ensures, c .before .before .before .before .before .before .before .before .before .is-lit .ensures, set .setting .ensures, set .before .hides .ensures, ← set .before .before .is-open .ensures, ← c .before .before .before .interrupt .ensures, ← c .before .wants .ensures, c .if2 .taken)
 
 returns-3 : tie.Need-returns-3
 unfolding outputs nibble wants bayIn openBy
-returns-3 c =
-    let begun = c .before .before .before .before .before .before .before .before .before .before .before .before .before .before in
+returns-3 c = let begun = c .before .before .before .before .before .before .before .before .before .before .before .before .before .before in
     let set = c .before .before .before .before .before .before .before .before .before .before in
-    rw (chosen (not-false (begun .before .before .args .self .started) (begun .if1 .left)), c .before .before .before .before .before .before .before .outputs .ensures, c .before .before .before .before .before .nibble .ensures, set .setting .ensures, set .before .hides .ensures, ← set .before .before .is-open .ensures, ← c .before .before .before .interrupt .ensures, ← c .before .wants .ensures, c .if2 .left) (omega arith)
+    rw (chosen (not-false (begun .before .before .args .self .started) (begun .if1 .left)), c .before .before .before .before .before .before .before .outputs .ensures, c .before .before .before .before .before .nibble .ensures, c .before .before .before .before .before .before .before .before .before .is-lit .ensures, set .setting .ensures, set .before .hides .ensures, ← set .before .before .is-open .ensures, ← c .before .before .before .interrupt .ensures, ← c .before .wants .ensures, c .if2 .left) (omega arith)
 
 pub outputs-spec : {M : Type 1} → statement M
 outputs-spec =
     tie.close
     (tie.spec
     returns
+    (λ c κs. search needs)
     (λ c κs. search needs)
     (λ c κs. search needs)
     (λ c κs. search needs)

@@ -1,7 +1,7 @@
 -- `machine::Machine::reading` meets its contract: each return has the tests that led there, which are the definition's in its
 -- order. Assumes nothing.
 use borrow.Author.Needs.{needs}
-use Rattle.machine.specs.Registers.{reading}
+use Rattle.machine.specs.InForce.{reading}
 use Rattle.machine.proofs.Choice.{chosen, passed}
 use Rattle.machine.proofs.Machine.reading.Statement.{statement}
 use Rattle.machine.proofs.Machine.reading.Tie as tie

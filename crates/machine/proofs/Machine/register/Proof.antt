@@ -1,73 +1,27 @@
--- `machine::Machine::register` meets its contract: the arm that was taken says which address it is; any other is none of the
--- table's. Assumes nothing.
-use Prim.Native.Nat.{_<_}
-use native.Mathlib.Omega.{arith}
-use mathlib.Core.Logic.{⊎-elim, inl, inr}
-use borrow.Author.Tests.{ne-eqb}
+-- `machine::Machine::register` meets its contract: the arm that was taken says which kind it is. Assumes nothing.
+use mathlib.Core.Path.{ap}
 use borrow.Author.Needs.{needs}
-use Rattle.machine.specs.Registers.{register, registers, bstrAt, bcerAt}
+use Rattle.kind.specs.Kind.{isSecond}
+use Rattle.machine.specs.InForce.{register}
+use Rattle.machine.proofs.Choice.{chosen, passed}
 use Rattle.machine.proofs.Machine.register.Statement.{statement}
 use Rattle.machine.proofs.Machine.register.Tie as tie
 
 returns : tie.Need-returns
-unfolding register registers
-returns c = rw (c .match .keys1)
+unfolding register
+returns c = rw (passed (ap isSecond (c .before .enum-told .given .1))) (c .first-register .ensures)
 
 returns-2 : tie.Need-returns-2
-unfolding register registers
-returns-2 c = rw (c .match .keys2)
-
-returns-3 : tie.Need-returns-3
-unfolding register registers
-returns-3 c = rw (c .match .keys3)
-
-returns-4 : tie.Need-returns-4
-unfolding register registers
-returns-4 c = rw (c .before .match .keys4) (c .dbccr .ensures)
-
-returns-5 : tie.Need-returns-5
-unfolding register registers bstrAt
-returns-5 c =
-    let found = c .before .before .before in
-    rw (c .bstr .ensures, c .before .secured .ensures, c .before .before .hides .ensures, found .bay-in .ensures, found .before .before .is-open .ensures, found .before .before .before .bay-of .ensures) (⊎-elim (λ e. rw e) (λ e. rw e) (found .before .match .keys5))
-
-returns-6 : tie.Need-returns-6
-unfolding register registers bcerAt
-returns-6 c = rw (c .bcer .ensures, c .before .bay-in2 .ensures, c .before .before .before .is-open .ensures, c .before .before .before .before .bay-of .ensures) (⊎-elim (λ e. rw e) (λ e. rw e) (c .before .before .match .keys6))
-
-returns-7 : tie.Need-returns-7
-unfolding register registers
-returns-7 c = rw (c .before .match .keys7)
-
-returns-8 : tie.Need-returns-8
-unfolding register registers
-returns-8 c =
-    let byte : c .before .before .before .before .args .self .shared .«wait_time» < 256 = search needs in rw (c .match .keys8) (omega (arith, byte))
-
-returns-9 : tie.Need-returns-9
-unfolding register registers
-returns-9 c = let r = c .match .rest in
-    rw (ne-eqb _ _ (r .0 .0 .0 .0 .0 .0 .0 .1), ne-eqb _ _ (r .0 .0 .0 .0 .0 .0 .1), ne-eqb _ _ (r .0 .0 .0 .0 .0 .1), ne-eqb _ _ (r .0 .0 .0 .0 .1), ne-eqb _ _ (λ e. r .0 .0 .0 .1 (inl e)), ne-eqb _ _ (λ e. r .0 .0 .1 (inl e)), ne-eqb _ _ (λ e. r .0 .0 .0 .1 (inr e)), ne-eqb _ _ (λ e. r .0 .0 .1 (inr e)), ne-eqb _ _ (r .0 .1), ne-eqb _ _ (r .1))
+unfolding register
+returns-2 c = rw (chosen (ap isSecond (c .before .enum-told2 .given .1))) (c .second-register .ensures)
 
 pub register-spec : {M : Type 1} → statement M
 register-spec =
     tie.close
     (tie.spec
+    (λ c. search needs)
     (λ c κs. search needs)
-    (λ c κs. search needs)
-    (λ c κs. search needs)
-    (λ c κs. search needs)
-    (λ c κs. search needs)
-    (λ c κs. search needs)
-    (λ c κs. search needs)
-    (λ c κs. search needs)
+    (λ c. search needs)
     (λ c κs. search needs)
     returns
-    returns-2
-    returns-3
-    returns-4
-    returns-5
-    returns-6
-    returns-7
-    returns-8
-    returns-9)
+    returns-2)

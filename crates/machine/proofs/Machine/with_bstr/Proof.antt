@@ -14,10 +14,9 @@ returns c = rw (← c .before .is-open .ensures, not-true (c .before .is-open .r
 
 returns-2 : tie.Need-returns-2
 unfolding bstrWrite
-returns-2 c =
-    let a = c .before .before .before .before .before .before .before .before .args in
-    let asked = c .before .before .before .before .before .before .before in
-    rw (← asked .is-open .ensures, not-false (asked .is-open .result) (c .before .before .before .before .before .before .if1 .left), c .before .before .bstr-written .ensures, c .bstr-written2 .ensures) (meant (bstrWritten (a .value)) (a .i) (a .self))
+returns-2 c = let asked = c .before .before .before .before .before .before .before .before in
+    let a = asked .before .args in
+    rw (← asked .is-open .ensures, not-false (asked .is-open .result) (c .before .before .before .before .before .before .before .if1 .left), c .before .before .bstr-written .ensures, c .bstr-written2 .ensures) (meant (bstrWritten (a .value)) (a .i) (a .self))
 
 pub with-bstr-spec : {M : Type 1} → statement M
 with-bstr-spec =

@@ -13,13 +13,14 @@ returns c = rw (chosen (c .if1 .taken))
 
 returns-2 : tie.Need-returns-2
 unfolding dbccrWrite dbccrStored bayIn
-returns-2 c = rw (passed (c .before .before .before .before .before .if1 .left), c .closed-by .ensures, c .before .before .before .has .ensures)
+returns-2 c = rw (passed (c .before .before .before .before .before .before .before .if1 .left), c .closed-by .ensures, c .before .before .before .has .ensures, c .before .before .before .before .count-written .ensures)
 
 pub with-dbccr-spec : {M : Type 1} → statement M
 with-dbccr-spec =
     tie.close
     (tie.spec
     returns
+    (λ c κs. search needs)
     (λ c κs. search needs)
     (λ c. search needs)
     (λ c. search needs)

@@ -1,6 +1,6 @@
 -- `machine::Machine::with_letr` meets its contract: its code is the definition. Assumes nothing.
 use mathlib.Core.Path.{refl}
-use Rattle.machine.specs.Registers.{letrWrite}
+use Rattle.machine.specs.FirstKind.{letrWrite}
 use Rattle.machine.proofs.Machine.with_letr.Statement.{statement}
 use Rattle.machine.proofs.Machine.with_letr.Tie as tie
 

@@ -1,6 +1,6 @@
 -- `machine::Machine::with_wait` meets its contract: its code is the definition. Assumes nothing.
 use mathlib.Core.Path.{refl}
-use Rattle.machine.specs.Registers.{waitWrite}
+use Rattle.machine.specs.FirstKind.{waitWrite}
 use Rattle.machine.proofs.Machine.with_wait.Statement.{statement}
 use Rattle.machine.proofs.Machine.with_wait.Tie as tie
 

@@ -47,31 +47,35 @@ returns-10 c = c .write .ensures ∙ rw (c .before .enum-told10 .given .1)
 
 returns-11 : tie.Need-returns-11
 unfolding orderLine
-returns-11 c = c .given8 .ensures ∙ rw (c .before .enum-told11 .given .1, c .before .before .before .octet .ensures)
+returns-11 c = c .read .ensures ∙ rw (c .before .enum-told11 .given .1)
 
 returns-12 : tie.Need-returns-12
 unfolding orderLine
-returns-12 c = c .given9 .ensures ∙ rw (c .before .enum-told12 .given .1, c .before .before .before .octet .ensures)
+returns-12 c = c .given8 .ensures ∙ rw (c .before .enum-told12 .given .1, c .before .before .before .octet .ensures)
 
 returns-13 : tie.Need-returns-13
 unfolding orderLine
-returns-13 c = c .given10 .ensures ∙ rw (c .before .enum-told13 .given .1)
+returns-13 c = c .given9 .ensures ∙ rw (c .before .enum-told13 .given .1)
 
 returns-14 : tie.Need-returns-14
 unfolding orderLine
-returns-14 c = c .given11 .ensures ∙ rw (c .before .enum-told14 .given .1)
+returns-14 c = c .given10 .ensures ∙ rw (c .before .enum-told14 .given .1)
 
 returns-15 : tie.Need-returns-15
 unfolding orderLine
-returns-15 c = c .given12 .ensures ∙ rw (c .before .enum-told15 .given .1)
+returns-15 c = c .given11 .ensures ∙ rw (c .before .enum-told15 .given .1)
 
 returns-16 : tie.Need-returns-16
 unfolding orderLine
-returns-16 c = c .given13 .ensures ∙ rw (c .before .enum-told16 .given .1)
+returns-16 c = c .given12 .ensures ∙ rw (c .before .enum-told16 .given .1)
 
 returns-17 : tie.Need-returns-17
 unfolding orderLine
-returns-17 c = c .given14 .ensures ∙ rw (c .before .enum-told17 .given .1)
+returns-17 c = c .given13 .ensures ∙ rw (c .before .enum-told17 .given .1)
+
+returns-18 : tie.Need-returns-18
+unfolding orderLine
+returns-18 c = c .given14 .ensures ∙ rw (c .before .before .enum-told18 .given .1, c .before .small .ensures)
 
 pub order-spec : {M : Type 1} → statement M
 order-spec =
@@ -114,6 +118,9 @@ order-spec =
     (λ c κs. search needs)
     (λ c. search needs)
     (λ c κs. search needs)
+    (λ c. search needs)
+    (λ c κs. search needs)
+    (λ c κs. search needs)
     returns
     returns-2
     returns-3
@@ -130,4 +137,5 @@ order-spec =
     returns-14
     returns-15
     returns-16
-    returns-17)
+    returns-17
+    returns-18)

@@ -100,9 +100,14 @@ returns-23 c = rw (c .match .keys23)
 
 returns-24 : tie.Need-returns-24
 unfolding verbOf verbs name spelled
-returns-24 c =
+returns-24 c = rw (c .match .keys24)
+
+returns-25 : tie.Need-returns-25
+unfolding verbOf verbs name spelled
+returns-25 c =
     let r = c .match .rest in
     rw (
+      ne-eqb _ _ (r .0 .0 .0 .0 .0 .0 .0 .0 .0 .0 .0 .0 .0 .0 .0 .0 .0 .0 .0 .0 .0 .0 .0 .1),
       ne-eqb _ _ (r .0 .0 .0 .0 .0 .0 .0 .0 .0 .0 .0 .0 .0 .0 .0 .0 .0 .0 .0 .0 .0 .0 .1),
       ne-eqb _ _ (r .0 .0 .0 .0 .0 .0 .0 .0 .0 .0 .0 .0 .0 .0 .0 .0 .0 .0 .0 .0 .0 .1),
       ne-eqb _ _ (r .0 .0 .0 .0 .0 .0 .0 .0 .0 .0 .0 .0 .0 .0 .0 .0 .0 .0 .0 .0 .1),
@@ -155,4 +160,5 @@ verb-spec =
     returns-21
     returns-22
     returns-23
-    returns-24)
+    returns-24
+    returns-25)
