@@ -22,7 +22,7 @@
 #include <stdlib.h>
 #include <string.h>
 
-#define MEMORY_BYTES 128u
+#define MEMORY_BYTES 256u
 #define LINE_BYTES 128
 #define MOST_EVENTS 8
 #define OWN_WRITE 0x90

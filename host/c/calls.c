@@ -78,7 +78,7 @@ static void test_version(void) {
 static void test_begin(void) {
     begin();
     CHECK(state[DOCK_AT_VERSION] == DOCK_LAYOUT);
-    CHECK(state[DOCK_AT_STARTED] == 0);
+    CHECK(state[DOCK_AT_STARTED] == 0 && state[DOCK_AT_KIND] == 0 && state[DOCK_AT_NAMED] == 0);
     memset(state_buffer.copy, PAINT, sizeof state_buffer.copy);
     CHECK(only_changed(&state_buffer, DOCK_STATE_BYTES));
     CHECK(dock_outputs(state, DOCK_STATE_BYTES) == 0);
@@ -94,6 +94,8 @@ static void refuse_length(uint8_t *bytes, uint64_t length) {
     CHECK(dock_batch(bytes, length, words, 1, records, DOCK_RECORD_BYTES) == 0x00010000u);
     CHECK(dock_reading(bytes, length, 0x00) == 0x00010000u);
     CHECK(dock_outputs(bytes, length) == 0x00010000u);
+    CHECK(dock_name_kind(bytes, length, DOCK_SECOND_KIND) == 0x00010000u);
+    CHECK(dock_name_kind(bytes, length, 0) == 0x00010000u);
     CHECK(untouched());
 }
 
@@ -166,6 +168,8 @@ static void refuse_byte(size_t at, uint8_t value) {
     CHECK(dock_batch(state, DOCK_STATE_BYTES, NULL, 0, NULL, 0) == 0x00010000u);
     CHECK(dock_reading(state, DOCK_STATE_BYTES, 0x00) == 0x00010000u);
     CHECK(dock_outputs(state, DOCK_STATE_BYTES) == 0x00010000u);
+    CHECK(dock_name_kind(state, DOCK_STATE_BYTES, DOCK_FIRST_KIND) == 0x00010000u);
+    CHECK(dock_name_kind(state, DOCK_STATE_BYTES, 3) == 0x00010000u);
     CHECK(untouched());
     state[at] = before;
 }
@@ -180,36 +184,68 @@ static void take_byte(size_t at, uint8_t value) {
     state[at] = before;
 }
 
-/* Byte by byte, the largest value that the header calls fit; those with the progress are the test's below. */
-static uint8_t most_at(size_t at) {
-    static const uint8_t numbers[5] = {15, 3, 3, 255, 199};
-    static const uint8_t in_bay[7] = {9, 9, 4, 4, 4, 200, 255};
+/* Byte by byte, the largest value that the header calls fit beside bytes of 0; those with the progress are the test's
+ * below. Pulse and wait have two bytes, whose ranges go by the kind. */
+static uint8_t most_at(size_t at, uint8_t kind) {
+    static const uint8_t numbers[12] = {15, 3, 3, 255, 199, 255, 255, 255, 255, 7, 7, 255};
+    static const uint8_t in_first[9] = {9, 9, 4, 4, 4, 0, 200, 0, 255};
+    static const uint8_t in_second[9] = {9, 9, 4, 4, 4, 4, 255, 2, 255};
+    size_t in_bay = (at - DOCK_AT_NUMBERS_0) % COUNT(in_first);
     if (at < DOCK_AT_STRAPS) {
         return 1;
     }
     if (at < DOCK_AT_NUMBERS_0) {
         return numbers[at - DOCK_AT_STRAPS];
     }
-    return in_bay[(at - DOCK_AT_NUMBERS_0) % COUNT(in_bay)];
+    return kind == DOCK_FIRST_KIND ? in_first[in_bay] : in_second[in_bay];
+}
+
+/* A state after a RESET into this kind. */
+static void start(uint8_t kind, uint16_t reset) {
+    begin();
+    CHECK(dock_name_kind(state, DOCK_STATE_BYTES, kind) == 0);
+    CHECK(dock_record_refusal(dock_step(state, DOCK_STATE_BYTES, reset)) == DOCK_ACCEPTED);
+    remember(&state_buffer);
 }
 
 static void test_damage(void) {
-    begin();
-    CHECK(dock_step(state, DOCK_STATE_BYTES, 0xC0BF) == 0);
-    remember(&record_buffer);
-    for (unsigned version = 0; version < 256; version++) {
-        if (version != DOCK_LAYOUT) {
-            refuse_byte(DOCK_AT_VERSION, (uint8_t)version);
+    for (uint8_t kind = DOCK_FIRST_KIND; kind <= DOCK_SECOND_KIND; kind++) {
+        start(kind, 0xC0BF);
+        for (unsigned version = 0; version < 256; version++) {
+            if (version != DOCK_LAYOUT) {
+                refuse_byte(DOCK_AT_VERSION, (uint8_t)version);
+            }
+        }
+        for (size_t at = DOCK_AT_STARTED; at < DOCK_AT_PROGRESS; at++) {
+            take_byte(at, most_at(at, kind));
+            for (unsigned value = most_at(at, kind) + 1u; value < 256; value++) {
+                refuse_byte(at, (uint8_t)value);
+            }
+        }
+        for (unsigned progress = 9; progress < 256; progress++) {
+            refuse_byte(DOCK_AT_PROGRESS, (uint8_t)progress);
         }
     }
-    for (size_t at = DOCK_AT_STARTED; at < DOCK_AT_PROGRESS; at++) {
-        take_byte(at, most_at(at));
-        for (unsigned value = most_at(at) + 1u; value < 256; value++) {
-            refuse_byte(at, (uint8_t)value);
+}
+
+/* A pulse or a wait at the last number that is fit, and the one after it. */
+static void test_ticks(void) {
+    static const uint16_t most[2][2] = {{200, 255}, {1200, 560}};
+    for (uint8_t kind = DOCK_FIRST_KIND; kind <= DOCK_SECOND_KIND; kind++) {
+        for (int bay = 0; bay < 2; bay++) {
+            for (int wait = 0; wait < 2; wait++) {
+                size_t at = DOCK_AT_BAY_NUMBERS(bay) + (wait ? DOCK_BAY_WAIT : DOCK_BAY_PULSE);
+                uint16_t last = most[kind - DOCK_FIRST_KIND][wait];
+                start(kind, 0xC0FF);
+                state[at] = (uint8_t)(last >> 8);
+                take_byte(at + 1, (uint8_t)last);
+                CHECK(dock_ticks(state + at) == (last & 0xFF00));
+                state[at] = (uint8_t)((last + 1) >> 8);
+                refuse_byte(at + 1, (uint8_t)(last + 1));
+                state[at] = 0xFF;
+                refuse_byte(at + 1, (uint8_t)last);
+            }
         }
-    }
-    for (unsigned progress = 7; progress < 256; progress++) {
-        refuse_byte(DOCK_AT_PROGRESS, (uint8_t)progress);
     }
 }
 
@@ -244,7 +280,8 @@ static void write_register(uint8_t address, uint8_t value) {
 /* A device that is to wait for three ticks is Inserted in the third, and its count goes on from any saved value. */
 static void test_waits(void) {
     for (int bay = 0; bay < 2; bay++) {
-        uint8_t *wait = state + DOCK_AT_BAY_NUMBERS(bay) + DOCK_BAY_WAIT;
+        /* The low byte; the high one stays 0. */
+        uint8_t *wait = state + DOCK_AT_BAY_NUMBERS(bay) + DOCK_BAY_WAIT + 1;
         const uint8_t *of_bay = state + DOCK_AT_BAY_NUMBERS(bay) + DOCK_BAY_STATE;
         begin();
         CHECK(dock_step(state, DOCK_STATE_BYTES, 0xC0BB) == 0);
@@ -255,7 +292,7 @@ static void test_waits(void) {
         CHECK(dock_step(state, DOCK_STATE_BYTES, 0xA000) == DOCK_INTERRUPT << 8 && *wait == 2 && *of_bay == 0);
         for (unsigned value = 0; value < 256; value++) {
             take_byte(DOCK_AT_WAIT_TIME, (uint8_t)value);
-            take_byte(DOCK_AT_BAY_NUMBERS(bay) + DOCK_BAY_WAIT, (uint8_t)value);
+            take_byte(DOCK_AT_BAY_NUMBERS(bay) + DOCK_BAY_WAIT + 1, (uint8_t)value);
         }
         CHECK(dock_step(state, DOCK_STATE_BYTES, 0xA000) == DOCK_INTERRUPT << 8 && *wait == 1 && *of_bay == 0);
         *wait = 255;
@@ -270,17 +307,34 @@ static void test_waits(void) {
 /* The bytes behind it move up by one. */
 static void take_out(size_t at) { memmove(state + at, state + at + 1, DOCK_STATE_BYTES - at - 1); }
 
-/* What a library before 4.0 saved: 51 bytes, without the waits, of layout 2 or 1. */
-static void test_older_layout(void) {
+/* Whether an older layout did not have this byte. */
+static int is_newer(size_t at, uint8_t layout) {
+    size_t in_bay = at < DOCK_AT_NUMBERS_1 ? at - DOCK_AT_NUMBERS_0 : at - DOCK_AT_NUMBERS_1;
+    int of_kinds = at == DOCK_AT_KIND || at == DOCK_AT_NAMED;
+    int of_second = (at >= DOCK_AT_SUBSYSTEM_WRITTEN && at < DOCK_AT_FLAGS_0) ||
+                    (at >= DOCK_AT_SUBSYSTEM && at < DOCK_AT_NUMBERS_0);
+    int in_numbers = at >= DOCK_AT_NUMBERS_0 && at < DOCK_AT_PROGRESS;
+    int high_byte = in_numbers && (in_bay == DOCK_BAY_PULSE || in_bay == DOCK_BAY_WAIT);
+    int of_waits = at == DOCK_AT_WAIT_TIME || (in_numbers && in_bay == DOCK_BAY_WAIT + 1);
+    return of_kinds || of_second || high_byte || (layout < 3 && of_waits);
+}
+
+/* What older libraries saved: before 5.0 54 bytes of layout 3, before 4.0 51 of layout 2 or 1, without the waits. */
+static void test_older_layouts(void) {
     for (uint8_t layout = 1; layout < DOCK_LAYOUT; layout++) {
+        size_t length = DOCK_STATE_BYTES;
         begin();
         CHECK(dock_step(state, DOCK_STATE_BYTES, 0xC0BF) == 0);
-        take_out(DOCK_AT_BAY_NUMBERS(1) + DOCK_BAY_WAIT);
-        take_out(DOCK_AT_BAY_NUMBERS(0) + DOCK_BAY_WAIT);
-        take_out(DOCK_AT_WAIT_TIME);
+        for (size_t at = DOCK_STATE_BYTES; at-- > 0;) {
+            if (is_newer(at, layout)) {
+                take_out(at);
+                length--;
+            }
+        }
+        CHECK(length == (layout < 3 ? 51 : 54));
         state[DOCK_AT_VERSION] = layout;
         remember(&state_buffer);
-        refuse_length(state, DOCK_STATE_BYTES - 3);
+        refuse_length(state, length);
         refuse_byte(DOCK_AT_VERSION, layout);
     }
 }
@@ -288,10 +342,10 @@ static void test_older_layout(void) {
 /* The two bytes behind the progress are free where it uses them, and 0 elsewhere. */
 static void test_progress(void) {
     begin();
-    for (unsigned progress = 0; progress <= 6; progress++) {
+    for (unsigned progress = 0; progress <= 8; progress++) {
         state[DOCK_AT_PROGRESS] = (uint8_t)progress;
         for (size_t at = DOCK_AT_FIRST; at <= DOCK_AT_SECOND; at++) {
-            if (at == DOCK_AT_FIRST ? progress >= 3 : progress == 4) {
+            if (at == DOCK_AT_FIRST ? progress >= 3 : progress == 4 || progress == 8) {
                 take_byte(at, 0xFF);
             } else {
                 refuse_byte(at, 1);
@@ -344,8 +398,8 @@ static void test_fields(void) {
     CHECK(flags[DOCK_BAY_REMREQ_EN] == 1 && flags[DOCK_BAY_DEVSTSCHG_EN] == 1);
     CHECK(flags[DOCK_BAY_REMEVTWAK_EN] == 0 && flags[DOCK_BAY_PWR_CTL] == 1);
     CHECK(numbers[DOCK_BAY_COUNTS] == 0 && numbers[DOCK_BAY_COUNTS + 1] == 1 && numbers[DOCK_BAY_COUNTS + 2] == 0);
-    CHECK(numbers[DOCK_BAY_STATE] == 3 && numbers[DOCK_BAY_REQUEST] == 2 && numbers[DOCK_BAY_PULSE] == 0);
-    CHECK(numbers[DOCK_BAY_WAIT] == 0);
+    CHECK(numbers[DOCK_BAY_STATE] == 3 && numbers[DOCK_BAY_REQUEST] == 2);
+    CHECK(dock_ticks(numbers + DOCK_BAY_PULSE) == 0 && dock_ticks(numbers + DOCK_BAY_WAIT) == 0);
     CHECK(state[DOCK_AT_PROGRESS] == 4 && state[DOCK_AT_FIRST] == 0x14 && state[DOCK_AT_SECOND] == 0x81);
     /* The STOP of that write; then LOCK_CTL from 1 to 0 in LOCK_MODE 1 starts a pulse of LETR's 100 ticks. */
     dock_step(state, DOCK_STATE_BYTES, 0x2000);
@@ -354,7 +408,8 @@ static void test_fields(void) {
     dock_step(state, DOCK_STATE_BYTES, 0x4014);
     dock_step(state, DOCK_STATE_BYTES, 0x4002);
     dock_step(state, DOCK_STATE_BYTES, 0x2000);
-    CHECK(flags[DOCK_BAY_REMEVTWAK_EN] == 1 && flags[DOCK_BAY_LOCK_CTL] == 0 && numbers[DOCK_BAY_PULSE] == 100);
+    CHECK(flags[DOCK_BAY_REMEVTWAK_EN] == 1 && flags[DOCK_BAY_LOCK_CTL] == 0);
+    CHECK(dock_ticks(numbers + DOCK_BAY_PULSE) == 100);
     /* Bay 1 has the same fields behind its own two offsets. */
     dock_step(state, DOCK_STATE_BYTES, 0xC3FB);
     flags = state + DOCK_AT_BAY_FLAGS(1);
@@ -362,6 +417,125 @@ static void test_fields(void) {
     dock_step(state, DOCK_STATE_BYTES, 0x80FF);
     dock_step(state, DOCK_STATE_BYTES, 0xA000);
     CHECK(state[DOCK_AT_BAY_NUMBERS(1) + DOCK_BAY_COUNTS + 1] == 1);
+}
+
+/* ---- kinds ---- */
+
+/* One flag changes, and nothing else. */
+static void name(uint8_t kind) {
+    remember(&state_buffer);
+    CHECK(dock_name_kind(state, DOCK_STATE_BYTES, kind) == 0);
+    CHECK(state[DOCK_AT_NAMED] == (kind == DOCK_SECOND_KIND));
+    state_buffer.copy[GUARD + DOCK_AT_NAMED] = state[DOCK_AT_NAMED];
+    CHECK(untouched());
+}
+
+/* Both names, and every number that is none, in this state. */
+static void try_names(void) {
+    uint8_t named = state[DOCK_AT_NAMED];
+    remember(&record_buffer);
+    for (unsigned number = 0; number < 256; number++) {
+        if (number == DOCK_FIRST_KIND || number == DOCK_SECOND_KIND) {
+            name((uint8_t)number);
+        } else {
+            remember(&state_buffer);
+            CHECK(dock_name_kind(state, DOCK_STATE_BYTES, (uint8_t)number) == (uint32_t)DOCK_NO_SUCH_KIND << 16);
+            CHECK(untouched());
+        }
+    }
+    name(named ? DOCK_SECOND_KIND : DOCK_FIRST_KIND);
+}
+
+/* Anywhere in the story, also inside a command: what the words then do is the same. */
+static void test_names(void) {
+    static uint8_t unnamed[DOCK_STATE_BYTES];
+    begin();
+    dock_begin(unnamed, sizeof unnamed);
+    for (size_t i = 0; i < COUNT(STORY); i++) {
+        try_names();
+        CHECK(dock_step(state, DOCK_STATE_BYTES, STORY[i]) == dock_step(unnamed, sizeof unnamed, STORY[i]));
+        CHECK(memcmp(state, unnamed, sizeof unnamed) == 0);
+    }
+    /* The name comes into force with the next RESET, and stays for the one after it. */
+    name(DOCK_SECOND_KIND);
+    CHECK(state[DOCK_AT_KIND] == 0 && dock_reading(state, DOCK_STATE_BYTES, 0x00) == 0x55);
+    for (int times = 0; times < 2; times++) {
+        CHECK(dock_step(state, DOCK_STATE_BYTES, 0xC0BF) == 0);
+        CHECK(state[DOCK_AT_KIND] == 1 && dock_reading(state, DOCK_STATE_BYTES, 0x00) == 0x60);
+        CHECK(dock_reading(state, DOCK_STATE_BYTES, 0x14) == 0x05);
+    }
+    try_names();
+    name(DOCK_FIRST_KIND);
+    CHECK(dock_step(state, DOCK_STATE_BYTES, 0xC0BF) == 0);
+    CHECK(state[DOCK_AT_KIND] == 0 && dock_reading(state, DOCK_STATE_BYTES, 0x00) == 0x55);
+}
+
+/* The batch of document 03, word by word too, and what it leaves. A replay of the same words is of the first kind. */
+static void test_second_kind(void) {
+    static const uint16_t trace[] = {0xC0FF, 0x0000, 0x4090, 0x400B, 0x4077, 0x4012, 0x4055, 0x2000, 0x0000,
+                                     0x4090, 0x400A, 0x0000, 0x4091, 0x6001, 0x6001, 0x6001, 0x6000, 0x6000};
+    static const uint8_t replies[] = {0, 0, 1, 1, 1, 1, 1, 0, 0, 1, 1, 0, 1, 3, 3, 3, 3, 4};
+    static const uint8_t taken[5] = {0x00, 0x77, 0x12, 0x00, 0xFF};
+    static const uint8_t second_take[4] = {0x06, 0xEE, 0x00, 0x00};
+    static uint8_t by_step[DOCK_STATE_BYTES];
+    begin();
+    name(DOCK_SECOND_KIND);
+    memcpy(by_step, state, sizeof by_step);
+    CHECK(dock_batch(state, DOCK_STATE_BYTES, trace, COUNT(trace), records, ROOM) == COUNT(trace));
+    for (size_t i = 0; i < COUNT(trace); i++) {
+        uint32_t record = dock_record(records + DOCK_RECORD_BYTES * i);
+        uint8_t byte = i + COUNT(taken) < COUNT(trace) ? 0 : taken[i + COUNT(taken) - COUNT(trace)];
+        CHECK(dock_record_refusal(record) == DOCK_ACCEPTED && dock_record_outputs(record) == 0);
+        CHECK(dock_record_reply(record) == replies[i] && dock_record_byte(record) == byte);
+        CHECK(dock_step(by_step, sizeof by_step, trace[i]) == record);
+    }
+    CHECK(memcmp(records + 14 * DOCK_RECORD_BYTES, second_take, sizeof second_take) == 0);
+    CHECK(memcmp(by_step, state, sizeof by_step) == 0);
+    CHECK(state[DOCK_AT_SUBSYSTEM_WRITTEN + 3] == 1 && state[DOCK_AT_SUBSYSTEM + 3] == 0x77);
+    CHECK(state[DOCK_AT_DBCCR_WRITTEN] == 1 && state[DOCK_AT_SECLOCK] == 1 && state[DOCK_AT_BAY_COUNT] == 2);
+    CHECK(dock_replay(trace, COUNT(trace), records, ROOM) == COUNT(trace));
+    CHECK(dock_record_reply(dock_record(records + 5 * DOCK_RECORD_BYTES)) == DOCK_NO_ACK);
+}
+
+/* Field by field, so that each name stands for the byte that it says. */
+static void test_second_fields(void) {
+    const uint8_t *bay_0 = state + DOCK_AT_BAY_NUMBERS(0), *bay_1 = state + DOCK_AT_BAY_NUMBERS(1);
+    start(DOCK_SECOND_KIND, 0xC0FF);
+    write_register(0x09, 0x34);
+    write_register(0x15, 0x0A);
+    write_register(0x21, 0xFD);
+    write_register(0xFC, 0xFF);
+    CHECK(state[DOCK_AT_SUBSYSTEM_WRITTEN] == 0 && state[DOCK_AT_SUBSYSTEM_WRITTEN + 1] == 1);
+    CHECK(state[DOCK_AT_SUBSYSTEM] == 0 && state[DOCK_AT_SUBSYSTEM + 1] == 0x34);
+    CHECK(state[DOCK_AT_FORM_FACTORS_WRITTEN] == 1 && state[DOCK_AT_FORM_FACTORS_WRITTEN + 1] == 1);
+    CHECK(state[DOCK_AT_FORM_FACTORS] == 2 && state[DOCK_AT_FORM_FACTORS + 1] == 5);
+    CHECK(state[DOCK_AT_SFR_WRITTEN] == 1 && state[DOCK_AT_SFR] == 0xFF);
+    /* The longest pulse in bay 1, and ten ticks later the longest wait in bay 0. */
+    write_register(0x18, 0x80);
+    write_register(0x18, 0x00);
+    CHECK(dock_ticks(bay_1 + DOCK_BAY_PULSE) == 1200);
+    dock_step(state, DOCK_STATE_BYTES, 0x80BF);
+    for (int ticks = 0; ticks < 10; ticks++) {
+        CHECK(dock_step(state, DOCK_STATE_BYTES, 0xA000) == DOCK_LOCK_1 << 8);
+    }
+    CHECK(dock_ticks(bay_1 + DOCK_BAY_PULSE) == 1190 && dock_ticks(bay_0 + DOCK_BAY_WAIT) == 560);
+    CHECK(dock_ticks(bay_0 + DOCK_BAY_PULSE) == 0 && dock_ticks(bay_1 + DOCK_BAY_WAIT) == 0);
+    CHECK(dock_reading(state, DOCK_STATE_BYTES, 0x14) == 0x00);
+    /* A write and a read within. */
+    dock_step(state, DOCK_STATE_BYTES, 0x0000);
+    dock_step(state, DOCK_STATE_BYTES, 0x4090);
+    dock_step(state, DOCK_STATE_BYTES, 0x40FF);
+    dock_step(state, DOCK_STATE_BYTES, 0x4001);
+    CHECK(state[DOCK_AT_PROGRESS] == 7 && state[DOCK_AT_FIRST] == 0x00 && state[DOCK_AT_SECOND] == 0);
+    dock_step(state, DOCK_STATE_BYTES, 0x2000);
+    dock_step(state, DOCK_STATE_BYTES, 0x0000);
+    dock_step(state, DOCK_STATE_BYTES, 0x4090);
+    dock_step(state, DOCK_STATE_BYTES, 0x40FF);
+    dock_step(state, DOCK_STATE_BYTES, 0x0000);
+    dock_step(state, DOCK_STATE_BYTES, 0x4091);
+    CHECK(state[DOCK_AT_PROGRESS] == 8 && state[DOCK_AT_FIRST] == 0xFF && state[DOCK_AT_SECOND] == 0x00);
+    dock_step(state, DOCK_STATE_BYTES, 0x6001);
+    CHECK(state[DOCK_AT_PROGRESS] == 8 && state[DOCK_AT_FIRST] == 0x00 && state[DOCK_AT_SECOND] == 0x60);
 }
 
 /* P1 to P3 of document 01, and its last record. */
@@ -440,12 +614,16 @@ int main(void) {
     test_empty_lists();
     test_order();
     test_damage();
+    test_ticks();
     test_counts();
     test_waits();
-    test_older_layout();
+    test_older_layouts();
     test_progress();
     test_story();
     test_fields();
+    test_names();
+    test_second_kind();
+    test_second_fields();
     test_paper();
     test_save();
     test_words();

@@ -27,8 +27,8 @@ int firmware_event(struct firmware *dock, uint8_t kind, uint16_t first, uint8_t 
 
 /* The host waits for this, so it comes first. A word that was refused has no ACK and drives nothing.
  * A stand-in: the TAKE's own record has the byte, so the bus is held until the loop comes to it. Once the library tells
- * the byte before the TAKE, the bus can have it ready. The TAKE is put before the host's ACK is known; its bit changes
- * nothing. */
+ * the byte before the TAKE, the bus can have it ready. The TAKE is put before the host's ACK is known: this dock is of the
+ * first kind, where its bit changes nothing. One of the second would put the TAKE when the ACK has come. */
 static void answer_bus(uint16_t word, uint32_t record) {
     if (dock_kind(word) == DOCK_BYTE) {
         board_acknowledge(dock_record_reply(record) == DOCK_ACK);
@@ -94,7 +94,7 @@ static int same(const struct firmware *dock, size_t from, size_t end) {
 
 /* Of ticks that are left: whether any are. */
 static int same_running(const struct firmware *dock, size_t at) {
-    return (dock->state[at] == 0) == (dock->saved[at] == 0);
+    return (dock_ticks(dock->state + at) == 0) == (dock_ticks(dock->saved + at) == 0);
 }
 
 static int same_bay(const struct firmware *dock, int bay) {
@@ -109,7 +109,7 @@ static int same_bay(const struct firmware *dock, int bay) {
  * command. So a pulse or a wait that is cut may last longer after the restart, by the ticks since the last save. */
 static void save(struct firmware *dock) {
     if (same(dock, DOCK_AT_VERSION, DOCK_AT_FLAGS_0) && same(dock, DOCK_AT_STRAPS, DOCK_AT_PHASE) &&
-        same_bay(dock, 0) && same_bay(dock, 1)) {
+        same(dock, DOCK_AT_SUBSYSTEM, DOCK_AT_NUMBERS_0) && same_bay(dock, 0) && same_bay(dock, 1)) {
         return;
     }
     store_save(dock->state);

@@ -2,6 +2,7 @@
  * one thing on a line, and prints the same on every processor: where two libraries print the same, they did the same.
  *
  *   begin                  a fresh state
+ *   kind N                 names a kind of controller: prints the refusal
  *   words HHHH ..          these words, one step each: prints each record
  *   stream SEED COUNT      so many words from a seed, one step each
  *   batches SEED COUNT     the same, in batches of 1 to 32
@@ -9,7 +10,8 @@
  *   registers              what all 256 addresses read, outside the bus, as a sum, and the outputs
  *   situations             what the steps so far came to; one that they did not come to counts as a difference
  *
- * A stream and its batches print a sum over every record and every image on the way. It ends with how many words were
+ * A stream and its batches, whose words are meant for the first kind, print a sum over every record and every image on
+ * the way. It ends with how many words were
  * played and how many differences there were between the two controllers; the status is 0 where there was none. */
 #include "../plain/held.h"
 #include "dock.h"
@@ -27,7 +29,8 @@ enum { LINE_BYTES = 256, BATCH_WORDS = 32, MISUSED = 2 };
 
 static uint8_t state[DOCK_STATE_BYTES];
 static struct words words;
-/* The C controller has no image to go on from, so it stands aside after a load until a RESET. */
+/* The C controller has no image to go on from, so it stands aside after a load until a RESET; and it is of the first
+ * kind, so it stands aside from a RESET into the second. */
 static int beside;
 static unsigned long played, differences;
 static uint32_t sum;
@@ -42,7 +45,9 @@ static void add(const uint8_t *bytes, unsigned length) {
 
 static void compare(uint16_t word, uint32_t record) {
     uint32_t other = plain_step(word);
-    beside |= dock_kind(word) == DOCK_RESET;
+    if (dock_kind(word) == DOCK_RESET) {
+        beside = !state[DOCK_AT_NAMED];
+    }
     if (beside && record != other && differences++ < 10) {
         printf("  %04X: library %08lX, C controller %08lX\n", (unsigned)word, (unsigned long)record,
                (unsigned long)other);
@@ -83,6 +88,11 @@ static void begin(void) {
     dock_begin(state, sizeof state);
     plain_begin();
     beside = 1;
+}
+
+static void name(unsigned kind) {
+    uint32_t answer = dock_name_kind(state, sizeof state, (uint8_t)kind);
+    printf("  refusal %lu\n", (unsigned long)dock_refusal(answer));
 }
 
 static void play_stream(unsigned seed, unsigned count) {
@@ -169,9 +179,11 @@ static void ask_registers(void) {
 
 /* 0 where the line is not understood. */
 static int play(const char *line) {
-    unsigned seed, count;
+    unsigned kind, seed, count;
     if (strcmp(line, "begin") == 0) {
         begin();
+    } else if (sscanf(line, "kind %u", &kind) == 1) {
+        name(kind);
     } else if (memcmp(line, "words ", 6) == 0) {
         return play_words(line + 5);
     } else if (sscanf(line, "stream %u %u", &seed, &count) == 2) {

@@ -23,7 +23,10 @@ static unsigned long bay_seen[2][OF_BAY], dock_seen[OF_DOCK];
 static void see_bay(unsigned long *seen, const uint8_t *before, const uint8_t *after, int bay) {
     unsigned flags = DOCK_AT_BAY_FLAGS(bay), numbers = DOCK_AT_BAY_NUMBERS(bay);
     unsigned state = numbers + DOCK_BAY_STATE, power = flags + DOCK_BAY_PWR_CTL;
-    unsigned pulse = numbers + DOCK_BAY_PULSE, wait = numbers + DOCK_BAY_WAIT;
+    unsigned pulse_before = dock_ticks(before + numbers + DOCK_BAY_PULSE);
+    unsigned pulse_after = dock_ticks(after + numbers + DOCK_BAY_PULSE);
+    unsigned wait_before = dock_ticks(before + numbers + DOCK_BAY_WAIT);
+    unsigned wait_after = dock_ticks(after + numbers + DOCK_BAY_WAIT);
     int inserted = before[state] != after[state] && after[state] == INSERTED;
     if (before[state] != after[state]) {
         seen[TO_STATE + after[state]]++;
@@ -32,11 +35,11 @@ static void see_bay(unsigned long *seen, const uint8_t *before, const uint8_t *a
     seen[CHANGED] += !before[flags + DOCK_BAY_DEVSTSCHG] && after[flags + DOCK_BAY_DEVSTSCHG];
     seen[POWERED] += !before[power] && after[power];
     seen[UNPOWERED] += before[power] && !after[power];
-    seen[PULSE] += before[pulse] == 0 && after[pulse] > 0;
-    seen[PULSE_ENDS] += before[pulse] == 1 && after[pulse] == 0;
-    seen[WAIT] += before[wait] == 0 && after[wait] > 0;
-    seen[WAIT_ENDS] += before[wait] == 1 && after[wait] == 0 && inserted;
-    seen[WAIT_CUT] += before[wait] > 1 && after[wait] == 0;
+    seen[PULSE] += pulse_before == 0 && pulse_after > 0;
+    seen[PULSE_ENDS] += pulse_before == 1 && pulse_after == 0;
+    seen[WAIT] += wait_before == 0 && wait_after > 0;
+    seen[WAIT_ENDS] += wait_before == 1 && wait_after == 0 && inserted;
+    seen[WAIT_CUT] += wait_before > 1 && wait_after == 0;
 }
 
 void situations_see(const uint8_t *before, const uint8_t *after, uint32_t record) {

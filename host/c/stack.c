@@ -31,6 +31,7 @@ static void batch(void) { answer = dock_batch(state, sizeof state, words, WORDS,
 static void replay(void) { answer = dock_replay(words, WORDS, records, sizeof records); }
 static void reading(void) { answer = dock_reading(state, sizeof state, 0x10); }
 static void outputs(void) { answer = dock_outputs(state, sizeof state); }
+static void name_kind(void) { answer = dock_name_kind(state, sizeof state, DOCK_FIRST_KIND); }
 /* The deepest of them is what counts. */
 static void steps(void) {
     for (size_t i = 0; i < WORDS; i++)
@@ -84,6 +85,7 @@ int main(void) {
     printf("  questions, and the rest\n");
     report("dock_reading", reading);
     report("dock_outputs", outputs);
+    report("dock_name_kind", name_kind);
     report("dock_pack", pack);
     report("dock_unpack", unpack);
     report("dock_version", version);

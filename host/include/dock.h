@@ -1,4 +1,4 @@
-/* The proved controller of a two-bay cartridge dock, version 4.0, for C99 or C++11 and newer.
+/* The proved controller of a two-bay cartridge dock, version 5.0, for C99 or C++11 and newer.
  *
  * A program holds the controller's state as DOCK_STATE_BYTES bytes and gives it one event at a time:
  *
@@ -44,16 +44,21 @@ extern "C" {
  * rises where a program that was built on an older header would misread or misuse a call, the second where it would
  * not.
  *
+ * Since 5.0 the library serves a second kind of controller behind the same calls, for drivers of the other maker's
+ * part: dock_name_kind names it, and a RESET puts it in force; enum dock_controller_kind tells what is then different. A
+ * program that never calls it sees what it saw. A state holds what that kind needs, so DOCK_STATE_BYTES is 74, where it
+ * was 54, and images have DOCK_LAYOUT 4. A program that was built on an older header has every call with a state refused
+ * with 1, and must be built again: dock_fits_header() tells it. An image that an older library saved is refused with 1,
+ * and a program that finds one begins anew.
+ *
  * Since 4.0 register 42h holds a wait of 0 to 255 ticks for cartridges that seat slowly, 0 after a RESET. A driver that
  * leaves it at 0 sees what it saw. Above 0, a device that arrives with DEVSTSCHG_EN set, or over which that is set in
  * Empty, leaves its bay Empty while a count of so many ticks runs, and is Inserted at the count's end; DEVSTSCHG and
- * the interrupt come with the device, as ever. A state holds 42h and a count for each bay, so DOCK_STATE_BYTES is 54,
- * where it was 51, and images have DOCK_LAYOUT 3. A program that was built on an older header has every call with a
- * state refused with 1, and must be built again: dock_fits_header() tells it. An image that an older library saved is
- * refused with 1, and a program that finds one begins anew.
+ * the interrupt come with the device, as ever. A state came to hold 42h and a count for each bay, so it had 54 bytes,
+ * where it had 51, and images had layout 3.
  *
  * Since 3.1 a level of the removal button is accepted after 5 ticks, pressed and released, and not after 10; presence
- * still takes 10. No call has changed. A saved count of the button's is now at most 4, so images had DOCK_LAYOUT 2.
+ * still takes 10. No call has changed. A saved count of the button's is now at most 4, so images had layout 2.
  *
  * Since 3.0 a RESET starts LETR at 1, a pulse of 50 ticks, and not at 0, one of 12. A dock that was built on the short
  * pulse says so in each RESET: DOCK_SHORT_PULSE beside the straps, bit 12 of the word, which is refused no more. For it
@@ -66,7 +71,7 @@ extern "C" {
  *
  * Before version 2, dock_reading and dock_outputs took words where they take a state now, and dock_unpack had a layout
  * of its own. A program that was built on such a header must be built again. */
-#define DOCK_VERSION 0x0400u
+#define DOCK_VERSION 0x0500u
 
 /* Bits of words and answers, numbers of events, replies and refusals that this header does not name are 0 or not given
  * in this version. A later one may use them, and then has a higher first number. A program that begins by asking
@@ -74,7 +79,7 @@ extern "C" {
 uint32_t dock_version(void); /* value: as DOCK_VERSION */
 static inline int dock_fits_header(void) { return dock_version() >> 8 == DOCK_VERSION >> 8; }
 
-#define DOCK_STATE_BYTES 54u
+#define DOCK_STATE_BYTES 74u
 #define DOCK_RECORD_BYTES 4u
 #define DOCK_MOST_WORDS 16384u
 
@@ -98,18 +103,20 @@ enum dock_kind_number {
 /* The refusals, by call. "call": the call refuses. "record": the record of that word says so, and the call goes on.
  * dock_version gives 0 only.
  *
- * | no. | given when | begin | step | batch | reading, outputs | replay | pack | unpack |
- * |---|---|---|---|---|---|---|---|---|
- * | 0 | none below | call | call | call, record | call | call, record | call | call |
- * | 1 | the state has another length, or (not begin) is no image of a fit state | call | call | call | call | | | |
- * | 2 | a bit is set that must be 0, or the three numbers are no event's | | call | record | | record | call | call |
- * | 3 | no RESET yet, and the word is not one | | call | record | | record | | |
- * | 4 | fewer than 4 record bytes for each word | | | call | | call | | |
- * | 5 | over 16,384 words | | | call | | call | | |
- * | 6 | RESET with straps above 15 | | | | | | call | |
- * | 7-15 | never in this version | | | | | | | |
+ * | no. | given when | begin | step | batch | reading, outputs | name_kind | replay | pack | unpack |
+ * |---|---|---|---|---|---|---|---|---|---|
+ * | 0 | none below | call | call | call, record | call | call | call, record | call | call |
+ * | 1 | the state has another length, or (not begin) is no image of a fit state | call | call | call | call | call | | | |
+ * | 2 | a bit is set that must be 0, or the three numbers are no event's | | call | record | | | record | call | call |
+ * | 3 | no RESET yet, and the word is not one | | call | record | | | record | | |
+ * | 4 | fewer than 4 record bytes for each word | | | call | | | call | | |
+ * | 5 | over 16,384 words | | | call | | | call | | |
+ * | 6 | RESET with straps above 15 | | | | | | | call | |
+ * | 14 | the number is that of no kind of controller | | | | | call | | | |
+ * | 7-13, 15 | never in this version | | | | | | | | |
  *
- * Where more than one could be given, the order is 1, 5, 4 for a call with words, and 1, 2, 3 for an event. */
+ * Where more than one could be given, the order is 1, 5, 4 for a call with words, 1, 2, 3 for an event, and 1, 14 for a
+ * name. */
 enum dock_refusal_number {
     DOCK_ACCEPTED = 0,
     DOCK_UNFIT_STATE = 1,
@@ -117,7 +124,8 @@ enum dock_refusal_number {
     DOCK_NOT_STARTED = 3,
     DOCK_SHORT_ANSWERS = 4,
     DOCK_TOO_MANY_WORDS = 5,
-    DOCK_WIDE_STRAPS = 6
+    DOCK_WIDE_STRAPS = 6,
+    DOCK_NO_SUCH_KIND = 14
 };
 
 enum dock_reply_number {
@@ -126,6 +134,36 @@ enum dock_reply_number {
     DOCK_NO_ACK = 2,
     DOCK_DRIVEN = 3,    /* the record's byte is what the dock drives */
     DOCK_NOT_DRIVEN = 4 /* the host clocks in FFh */
+};
+
+/* The kinds of controller, by the numbers that dock_name_kind takes: the DBC98C51, which a fresh state is, and the
+ * CDP1020 of older backplanes.
+ *
+ * Words, records, outputs, refusals and the own address bytes are the same in both. What is different in the second:
+ *
+ * | address | in the second kind | written | in the first |
+ * |---|---|---|---|
+ * | 00h, 01h, 04h | 60h, 12h, 01h: vendor and revision | never | 55h, 10h, 01h |
+ * | 08h-0Bh | subsystem vendor and subsystem, low byte first | each byte once after each RESET | |
+ * | 0Ch | DBCCR: bit 4 SECLOCK, 3-0 bay count, above 2 stored as 2; 02h after RESET | once after each RESET | DBCCR |
+ * | 10h, 18h | BCER of bay 0, bay 1 | always | 14h, 1Ch |
+ * | 14h, 20h | BSTR of bay 0, bay 1 | bits 3 and 2: 1 clears | 10h, 18h |
+ * | 15h, 21h | bits 2-0: BAY_FF of bay 0, bay 1; kept over RESET | once in the controller's life | |
+ * | FCh | SFR: bits 7-5 ITO, 4-1 SOL, 0 SPD; 00h after RESET | once after each RESET | |
+ * | 40h, 42h | not there: 0 | | LETR, the wait |
+ *
+ * - A write takes any number of data bytes, each written at once, and a read gives bytes for as long as the host ACKs
+ *   them, each read before it is asked for; the address rises by one with each, FFh to 00h.
+ * - A device is not there for the host, for power or for the button, before 80 x ITO ticks have gone by since its
+ *   contact was accepted; meanwhile green flashes where DEVSTSCHG_EN is set.
+ * - The lock pin is LOCK_CTL where SOL is 0. Else it is high for SOL x 5 ticks, with SPD SOL x 80, after LOCK_CTL went
+ *   from 1 to 0. The first write of SFR after a RESET clears LOCK_CTL and PWR_CTL of both bays.
+ * - Lamps flash with 50 ticks on and 50 off, where the first kind has 100 and 100.
+ * - BSTR shows nSL only where SECLOCK is set.
+ * - LOCK_DEF, LOCK_MODE and DOCK_SHORT_PULSE are taken in a RESET and mean nothing. */
+enum dock_controller_kind {
+    DOCK_FIRST_KIND = 1,
+    DOCK_SECOND_KIND = 2
 };
 
 /* The nine outputs. A lock bit is the level of the lock pin. */
@@ -164,7 +202,12 @@ uint32_t dock_reading(const uint8_t *state, uint64_t state_len, uint8_t address)
 /* Value: the nine outputs. */
 uint32_t dock_outputs(const uint8_t *state, uint64_t state_len);
 
-/* As dock_batch, from a fresh state that nobody keeps. */
+/* Names the kind of controller, DOCK_FIRST_KIND or DOCK_SECOND_KIND; any other number is refused with 14. The name comes
+ * into force with the next RESET and stays for later ones; until then nothing changes, also within a command. It is no
+ * event, and is taken before the first RESET too. Value: 0. */
+uint32_t dock_name_kind(uint8_t *state, uint64_t state_len, uint8_t kind);
+
+/* As dock_batch, from a fresh state that nobody keeps, and so of the first kind. */
 uint32_t dock_replay(const uint16_t *words, uint64_t words_len, uint8_t *records, uint64_t records_len);
 
 /* Value: the word of an event. Three numbers are no event's where the kind is above 7, a TAKE's first number is above
@@ -200,33 +243,45 @@ static inline uint8_t dock_second(uint32_t unpacked) { return (uint8_t)(unpacked
 /* ---- the image of a state, byte by byte: for reports and for tests, the calls need none of it ----
  *
  * Bytes are no image where the length is another one, byte 0 is not DOCK_LAYOUT, a flag is above 1, the progress is
- * above 6, or a byte is not 0 that the progress does not use. Every other byte string is the image of exactly one
- * state, which is unfit where a number is outside the range named. To a caller both are refusal 1.
+ * above 8, or a byte is not 0 that the progress does not use. Every other byte string is the image of exactly one
+ * state, which is unfit where a number is outside the range named. To a caller both are refusal 1. Only the ranges of a
+ * pulse and a wait go by the kind in force. What the other kind alone uses may hold anything in its range, and a
+ * progress of the other kind counts as none.
  *
  * DOCK_LAYOUT rises whenever a byte, a range or the length changes. An image of another layout is refused with 1: it is
  * not carried over, and a program that finds one begins anew. */
-#define DOCK_LAYOUT 3u
+#define DOCK_LAYOUT 4u
 
 #define DOCK_AT_VERSION 0u /* DOCK_LAYOUT */
 /* Flags: 0 or 1. */
-#define DOCK_AT_STARTED 1u       /* a RESET came */
-#define DOCK_AT_DBCCR_WRITTEN 2u /* .. and since then a write of DBCCR */
-#define DOCK_AT_SECLOCK 3u
-#define DOCK_AT_FLAGS_0 4u  /* fourteen flags of bay 0 */
-#define DOCK_AT_FLAGS_1 18u /* the same of bay 1 */
+#define DOCK_AT_STARTED 1u               /* a RESET came */
+#define DOCK_AT_KIND 2u                  /* the second kind is in force */
+#define DOCK_AT_NAMED 3u                 /* .. is named */
+#define DOCK_AT_DBCCR_WRITTEN 4u         /* since the RESET */
+#define DOCK_AT_SECLOCK 5u
+#define DOCK_AT_SUBSYSTEM_WRITTEN 6u     /* four, since the RESET: 08h to 0Bh */
+#define DOCK_AT_FORM_FACTORS_WRITTEN 10u /* two, ever: BAY_FF of bay 0, bay 1 */
+#define DOCK_AT_SFR_WRITTEN 12u          /* since the RESET */
+#define DOCK_AT_FLAGS_0 13u              /* fourteen flags of bay 0 */
+#define DOCK_AT_FLAGS_1 27u              /* the same of bay 1 */
 /* Numbers. */
-#define DOCK_AT_STRAPS 32u    /* 0-15 */
-#define DOCK_AT_BAY_COUNT 33u /* 0-3 */
-#define DOCK_AT_LOCK_TIME 34u /* 0-3: LETR */
-#define DOCK_AT_WAIT_TIME 35u /* 0-255: 42h */
-#define DOCK_AT_PHASE 36u     /* 0-199 */
-#define DOCK_AT_NUMBERS_0 37u /* seven numbers of bay 0 */
-#define DOCK_AT_NUMBERS_1 44u /* the same of bay 1 */
-/* The command in progress: 0 none is open; 1 START came, 2 own write byte, 3 register byte, 4 data byte, 5 second
- * START, 6 own read byte. */
-#define DOCK_AT_PROGRESS 51u
-#define DOCK_AT_FIRST 52u  /* 3 to 5: the register byte; 6: the value that the TAKE gives; else 0 */
-#define DOCK_AT_SECOND 53u /* 4: the data byte; else 0 */
+#define DOCK_AT_STRAPS 41u       /* 0-15 */
+#define DOCK_AT_BAY_COUNT 42u    /* 0-3 */
+#define DOCK_AT_LOCK_TIME 43u    /* 0-3: LETR */
+#define DOCK_AT_WAIT_TIME 44u    /* 0-255: 42h */
+#define DOCK_AT_PHASE 45u        /* 0-199 */
+#define DOCK_AT_SUBSYSTEM 46u    /* four of 0-255: 08h to 0Bh */
+#define DOCK_AT_FORM_FACTORS 50u /* two of 0-7: BAY_FF of bay 0, bay 1 */
+#define DOCK_AT_SFR 52u          /* 0-255 */
+#define DOCK_AT_NUMBERS_0 53u    /* nine bytes of numbers of bay 0 */
+#define DOCK_AT_NUMBERS_1 62u    /* the same of bay 1 */
+/* The command in progress: 0 none is open; 1 START came, 2 own write byte, 3 register byte, 5 second START. In the
+ * first kind: 4 data byte, 6 own read byte. In the second: 7 a data byte was written, 8 a byte is held for the TAKE. */
+#define DOCK_AT_PROGRESS 71u
+/* 3 to 5: the register byte; 6: the value that the TAKE gives; 7: the address that the next data byte goes to; 8: the
+ * address that the held byte was read at; else 0. */
+#define DOCK_AT_FIRST 72u
+#define DOCK_AT_SECOND 73u /* 4: the data byte; 8: the held byte; else 0 */
 
 /* Where the flags and the numbers of bay 0 or 1 begin. */
 #define DOCK_AT_BAY_FLAGS(bay) ((bay) == 0 ? DOCK_AT_FLAGS_0 : DOCK_AT_FLAGS_1)
@@ -248,8 +303,11 @@ static inline uint8_t dock_second(uint32_t unpacked) { return (uint8_t)(unpacked
 #define DOCK_BAY_COUNTS 0u  /* 0-9 of n1394, 0-9 of nUSB, 0-4 of nREMREQ */
 #define DOCK_BAY_STATE 3u   /* 0-4 */
 #define DOCK_BAY_REQUEST 4u /* 0-4 */
-#define DOCK_BAY_PULSE 5u   /* 0-200 */
-#define DOCK_BAY_WAIT 6u    /* 0-255: ticks until a device that waits is Inserted, 0 where none does */
+/* Ticks, in two bytes each, the high one first; a wait's are those until a device that waits is Inserted, in the second
+ * kind until it is there, and 0 where none does. */
+#define DOCK_BAY_PULSE 5u /* 0-200, in the second kind 0-1200 */
+#define DOCK_BAY_WAIT 7u  /* 0-255, in the second kind 0-560 */
+static inline uint16_t dock_ticks(const uint8_t *bytes) { return (uint16_t)(bytes[0] << 8 | bytes[1]); }
 
 #ifdef __cplusplus
 }

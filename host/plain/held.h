@@ -1,5 +1,5 @@
-/* The C controller with a state that it keeps, one event at a time, as a firmware without the library would have it. It
- * tests nothing that it is given but the word. */
+/* The C controller, which is of the first kind alone, with a state that it keeps, one event at a time, as a firmware
+ * without the library would have it. It tests nothing that it is given but the word. */
 #ifndef PLAIN_HELD_H
 #define PLAIN_HELD_H
 

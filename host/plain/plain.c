@@ -1,6 +1,6 @@
 /* The dock's controller as firmware C: one file, state in place, written by hand from documents 01 and 02.
  *
- * It is a yardstick for the benchmark and nothing else. Its calls have the shape of the library's (include/dock.h):
+ * It is of the first kind alone, and a yardstick for the benchmark and nothing else. Its calls have the shape of the library's (include/dock.h):
  * each begins with a fresh controller, and answers with a refusal number times 65,536 plus a value. */
 #include <stdbool.h>
 #include <stddef.h>

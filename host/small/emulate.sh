@@ -77,11 +77,12 @@ generated_runs() {
 # The hex digits of a state, as the header has its length.
 state_digits() { echo $((2 * $(sed -nE 's/^#define DOCK_STATE_BYTES ([0-9]+)u$/\1/p' "$here/include/dock.h"))); }
 
-# States on the way, saved. Before them bytes that are none, which are refused.
+# States on the way, saved, some of the second kind. Before them bytes that are none, which are refused.
 saving_runs() {
     local seed
     printf 'load %0*d\nsave\n' "$(state_digits)" 0
     for seed in {11..18}; do printf '%s\n' begin "stream $seed $((seed * 97))" save; done
+    for seed in {21..24}; do printf '%s\n' begin "kind 2" "stream $seed $((seed * 97))" save; done
 }
 
 # onward_runs FILE: from each state that was saved in what FILE has, on.

@@ -36,6 +36,7 @@ static void library_batch(void) { answer = dock_batch(state, sizeof state, words
 static void library_replay(void) { answer = dock_replay(words, words_len, records, sizeof records); }
 static void library_reading(void) { answer = dock_reading(state, sizeof state, 0x10); }
 static void library_outputs(void) { answer = dock_outputs(state, sizeof state); }
+static void library_name_kind(void) { answer = dock_name_kind(state, sizeof state, DOCK_FIRST_KIND); }
 static void library_pack(void) { answer = dock_pack(DOCK_BYTE, 0x90, 0); }
 static void library_unpack(void) { answer = dock_unpack(0x4090); }
 static void library_version(void) { answer = dock_version(); }
@@ -200,6 +201,7 @@ int main(void) {
     tell_both("dock_begin: a fresh image", library_begin, c_begin);
     tell_both("dock_outputs: an image loaded and tested", library_outputs, c_outputs);
     tell_both("dock_reading of BSTR: the same", library_reading, c_reading);
+    tell_alone("dock_name_kind: the same, and saved", library_name_kind);
     fill(ticks, COUNT(ticks));
     tell_alone("dock_replay of 33 words", library_replay);
     tell_alone("dock_pack", library_pack);

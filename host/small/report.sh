@@ -38,11 +38,11 @@ bytes() {
     sections "$1" | awk '{ sum += $1 } END { print sum + 0 }'
 }
 
-# Into $firmware/PROCESSOR: all nine calls, those on a held state, and the C controller's like them.
+# Into $firmware/PROCESSOR: all ten calls, those on a held state, and the C controller's like them.
 map_sizes() {
     local folder=$firmware/$1
     flags_of "$1"
-    link_calls "$folder/all.map" "${held_calls[@]}" dock_{replay,pack,unpack,version} -- "$folder/libdock.a"
+    link_calls "$folder/all.map" "${held_calls[@]}" dock_{name_kind,replay,pack,unpack,version} -- "$folder/libdock.a"
     link_calls "$folder/held.map" "${held_calls[@]}" -- "$folder/libdock.a"
     link_calls "$folder/loop-calls.map" dock_{begin,step,outputs,pack,version} -- "$folder/libdock.a"
     compile_small "$folder/held.o" "$here/plain/held.c"
@@ -99,7 +99,7 @@ tell_sizes() {
     row "**library / C controller**" bytes_ratio
     row "C controller: the same five at \`-Os\`" plain_small_bytes
     row "**library / C controller at \`-Os\`**" small_bytes_ratio
-    row "library: all nine calls" all_bytes
+    row "library: all ten calls" all_bytes
     row "library: the five that the main loop calls" loop_bytes
 }
 
@@ -200,14 +200,14 @@ report() {
 # What a dock pays for the library on a small processor
 
 The library is made for each processor from the module of the one for x86-64; the C controller beside it is
-\`plain/plain.c\`, the same job by hand, with its state in place. Both are compiled by the toolchain's clang at
+\`plain/plain.c\`, the first kind's job by hand, with its state in place. Both are compiled by the toolchain's clang at
 \`${level[*]}\`. How each number comes about, and what it means: the README of this folder.
 
 ## Code
 
 $(tell_sizes)
 
-A firmware that links with \`--gc-sections\` takes only what it calls. All nine calls, one by one:
+A firmware that links with \`--gc-sections\` takes only what it calls. All ten calls, one by one:
 
 $(tell_functions)
 

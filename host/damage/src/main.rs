@@ -3,10 +3,10 @@
 //!
 //!     damage [STATES [STRINGS [SEED]]]
 //!
-//! Tried are all single-bit flips of the images of STATES reached states (1,000 if not given), every value of every
-//! byte of some of them, STRINGS random byte strings of an image's length (100,000 if not given) and as many that are
-//! made of flags and numbers, every length from none to twice an image, and what a library before 4.0 saved of the same
-//! states.
+//! Tried are all single-bit flips of the images of STATES reached states of both kinds (1,000 if not given), every value
+//! of every byte of some of them, pulses, waits and commands of either kind in each of them with either kind in force,
+//! STRINGS random byte strings of an image's length (100,000 if not given) and as many that are made of flags and
+//! numbers, every length from none to twice an image, and what libraries before 5.0 and 4.0 saved of the same states.
 
 mod strings;
 mod trials;

@@ -1,19 +1,22 @@
 //! Which damaged states are tried, and what is tried with each.
 
-use crate::strings;
+use crate::strings::{self, KIND, NAMED, PROGRESS, TICKS, USED};
 use model::{is_image, Controller, STATE_BYTES};
 use std::collections::HashSet;
 use std::fmt;
-use trial::{hex, lists, Held, Mismatch, Random, Room, TOO_MANY};
+use trial::{hex, lists, Call, Held, Mismatch, Random, Room, TOO_MANY};
 
-/// A reached state comes after a list of at most so many words.
+/// A reached state comes after a list of at most so many words and names.
 const MOST_BEFORE: usize = 400;
 
-/// How many words an accepted state is given.
-const WORDS_AFTER: usize = 36;
+/// How many words and names an accepted state is given.
+const CALLS_AFTER: usize = 36;
 
 /// So many reached states have every value tried in every byte, and every length.
 const THOROUGH: usize = 8;
+
+/// Where a pulse or a wait is fit in both kinds, in one or in none.
+const EDGES: [u16; 14] = [0, 1, 199, 200, 201, 255, 256, 559, 560, 561, 1199, 1200, 1201, 0xFFFF];
 
 /// What was tried, and what became of it.
 #[derive(Clone, Copy, Default)]
@@ -62,12 +65,15 @@ impl Trials {
         );
         self.part("single bits flipped", |trials| reached.iter().try_for_each(|image| trials.flips(image)))?;
         self.part("every value of every byte", |trials| thorough.iter().try_for_each(|image| trials.values(image)))?;
+        self.part("pulses and waits at edges", |trials| reached.iter().try_for_each(|image| trials.ticks(image)))?;
+        self.part("commands of either kind", |trials| reached.iter().try_for_each(|image| trials.commands(image)))?;
         self.part("random strings", |trials| trials.noise(strings))?;
         self.part("strings made of fields", |trials| trials.made(strings))?;
         self.part("every length", |trials| thorough.iter().try_for_each(|image| trials.lengths(image)))?;
         self.part("what an older one saved", |trials| reached.iter().try_for_each(|image| trials.older(image)))?;
         println!("{:<28} {}", "all", self.total);
-        println!("images of {} reached states damaged: 0 mismatches", reached.len());
+        let second = reached.iter().filter(|image| image[KIND] == 1).count();
+        println!("images of {} reached states, {} of the second kind, damaged: 0 mismatches", reached.len(), second);
         Ok(())
     }
 
@@ -79,15 +85,14 @@ impl Trials {
         Ok(())
     }
 
-    /// Images of different states, each after a list of words, as the library holds them.
+    /// Images of different states of both kinds, each after a list, as the library holds them.
     fn reached(&mut self, states: usize) -> Result<Vec<Vec<u8>>, String> {
         let mut seen = HashSet::new();
         let mut reached = Vec::new();
         while reached.len() < states {
             let length = self.random.between(1, MOST_BEFORE);
-            let words = lists::list(&mut self.random, length);
-            let image =
-                after(&words).map_err(|mismatch| tell(&format!("on the way, words {:04X?}", words), &mismatch))?;
+            let list = lists::mixed(&mut self.random, length);
+            let image = after(&list).map_err(|mismatch| tell(&format!("on the way, {}", shown(&list)), &mismatch))?;
             if seen.insert(image.clone()) {
                 reached.push(image);
             }
@@ -113,6 +118,41 @@ impl Trials {
             }
         }
         Ok(())
+    }
+
+    /// Each pulse and each wait at every edge, with either kind in force and either named.
+    fn ticks(&mut self, image: &[u8]) -> Result<(), String> {
+        for (place, kind) in TICKS.iter().flat_map(|&(place, _)| [(place, 0), (place, 1)]) {
+            for ticks in EDGES {
+                let mut bytes = self.of_kind(image, kind);
+                strings::put_ticks(&mut bytes, place, ticks);
+                self.judge(&bytes)?;
+            }
+        }
+        Ok(())
+    }
+
+    /// Each progress, of the own kind, of the other and of none, with bytes where it uses them, and one where it doesn't.
+    fn commands(&mut self, image: &[u8]) -> Result<(), String> {
+        for (progress, kind) in (0..=USED.len()).flat_map(|progress| [(progress, 0), (progress, 1)]) {
+            let mut bytes = self.of_kind(image, kind);
+            bytes[PROGRESS..].fill(0);
+            bytes[PROGRESS] = progress as u8;
+            let used = USED.get(progress).copied().unwrap_or(0);
+            bytes[PROGRESS + 1..][..used].fill_with(|| self.random.byte());
+            self.judge(&bytes)?;
+            bytes[PROGRESS + 1 + self.random.below(2)] = self.random.pick(&lists::ADDRESSES);
+            self.judge(&bytes)?;
+        }
+        Ok(())
+    }
+
+    /// The image with this kind in force and one of the two named.
+    fn of_kind(&mut self, image: &[u8], kind: u8) -> Vec<u8> {
+        let mut bytes = image.to_vec();
+        bytes[KIND] = kind;
+        bytes[NAMED] = self.random.byte() & 1;
+        bytes
     }
 
     fn noise(&mut self, strings: usize) -> Result<(), String> {
@@ -145,14 +185,15 @@ impl Trials {
     /// What an older library saved, as it is and followed by zeros or by its like. With the number of this layout some
     /// of these are images, and the model says of which state.
     fn older(&mut self, image: &[u8]) -> Result<(), String> {
-        let older = strings::older(image);
         let zeros = vec![0; STATE_BYTES];
-        for tail in [&[][..], &zeros, &older] {
-            let mut bytes = [&older[..], tail].concat();
-            bytes.truncate(STATE_BYTES);
-            self.judge(&bytes)?;
-            bytes[0] = image[0];
-            self.judge(&bytes)?;
+        for older in strings::older(image) {
+            for tail in [&[][..], &zeros, &older] {
+                let mut bytes = [&older[..], tail].concat();
+                bytes.truncate(STATE_BYTES);
+                self.judge(&bytes)?;
+                bytes[0] = image[0];
+                self.judge(&bytes)?;
+            }
         }
         Ok(())
     }
@@ -186,19 +227,21 @@ impl Trials {
         let address = self.random.pick(&lists::ADDRESSES);
         held.reading(address)?;
         held.outputs()?;
+        held.name_kind(word as u8)?;
+        held.name_kind(2)?;
         held.begin()
     }
 
-    /// The registers and outputs of the state, then words, half of them one by one and half in a batch.
+    /// The registers and outputs of the state, then words and names, half of them one by one and half in batches.
     fn goes_on(&mut self, held: &mut Held, dock: &Controller) -> Result<(), Mismatch> {
-        let words = lists::onward(&mut self.random, dock.write_address(), dock.levels(), WORDS_AFTER);
-        let (by_steps, in_a_batch) = words.split_at(WORDS_AFTER / 2);
+        let list = lists::onward(&mut self.random, dock, CALLS_AFTER);
+        let (by_steps, by_batches) = list.split_at(CALLS_AFTER / 2);
         questions(held)?;
-        by_steps.iter().try_for_each(|&word| held.step(word))?;
+        by_steps.iter().try_for_each(|&call| held.call(call))?;
         questions(held)?;
-        held.batch(in_a_batch, Room::Exact)?;
+        in_batches(held, by_batches)?;
         questions(held)?;
-        self.part.words += words.len();
+        self.part.words += list.iter().filter(|call| call.word().is_some()).count();
         Ok(())
     }
 }
@@ -208,10 +251,29 @@ fn questions(held: &mut Held) -> Result<(), Mismatch> {
     lists::ADDRESSES.iter().try_for_each(|&address| held.reading(address))
 }
 
-fn after(words: &[u16]) -> Result<Vec<u8>, Mismatch> {
+/// The words in as few batches as the names between them allow.
+fn in_batches(held: &mut Held, list: &[Call]) -> Result<(), Mismatch> {
+    let mut rest = list;
+    while let Some(&call) = rest.first() {
+        let words = Call::until_name(rest);
+        if words.is_empty() {
+            held.call(call)?;
+        } else {
+            held.batch(&words, Room::Exact)?;
+        }
+        rest = &rest[words.len().max(1)..];
+    }
+    Ok(())
+}
+
+fn after(list: &[Call]) -> Result<Vec<u8>, Mismatch> {
     let mut held = Held::begun()?;
-    held.batch(words, Room::Exact)?;
+    in_batches(&mut held, list)?;
     Ok(held.bytes().to_vec())
+}
+
+fn shown(list: &[Call]) -> String {
+    list.iter().map(Call::to_string).collect::<Vec<_>>().join(" ")
 }
 
 fn tell(what: &str, mismatch: &Mismatch) -> String {

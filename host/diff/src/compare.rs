@@ -4,9 +4,10 @@ use crate::sides::{LIBRARY, MODEL, PLAIN};
 use crate::walk::{self, Way};
 use dock::ffi;
 use model::{numbers, Controller, RECORD_BYTES};
-use trial::{hex, pattern, Room};
+use trial::{hex, pattern, Call, Room};
 
-/// What is asked about a list of words. The library answers readings and outputs on its walks.
+/// What is asked about a list. Only a walk takes names; the other questions are about its words. The library answers
+/// readings and outputs on its walks.
 #[derive(Clone, Copy, Debug)]
 pub enum Question {
     Replay(Room),
@@ -45,13 +46,14 @@ impl Mismatch {
     }
 }
 
-/// Asks all, each from the words alone.
-pub fn ask(question: Question, words: &[u16]) -> Option<Mismatch> {
+/// Asks all, each from the list alone.
+pub fn ask(question: Question, list: &[Call]) -> Option<Mismatch> {
+    let words = Call::words(list);
     match question {
-        Question::Replay(room) => replay(words, room).err(),
-        Question::Walk(way, seed) => walk::walk(words, way, seed).err(),
-        Question::Reading(address) => reading(words, address, &Controller::after(words)),
-        Question::Outputs => outputs(words, &Controller::after(words)),
+        Question::Replay(room) => replay(&words, room).err(),
+        Question::Walk(way, seed) => walk::walk(list, way, seed).err(),
+        Question::Reading(address) => reading(&words, address, &Controller::after(&words)),
+        Question::Outputs => outputs(&words, &Controller::after(&words)),
     }
 }
 

@@ -6,6 +6,7 @@ use std::fmt;
 #[derive(Default)]
 pub struct Counts {
     pub examples: usize,
+    pub stories: usize,
     pub lists: usize,
     pub words: usize,
     pub held: walk::Counts,
@@ -16,10 +17,11 @@ pub struct Counts {
 impl fmt::Display for Counts {
     fn fmt(&self, f: &mut fmt::Formatter) -> fmt::Result {
         let held = &self.held;
-        write!(f, "{} examples, {} lists, {} words, ", self.examples, self.lists, self.words)?;
+        write!(f, "{} examples, {} stories, ", self.examples, self.stories)?;
+        write!(f, "{} lists, {} words, ", self.lists, self.words)?;
         write!(f, "on a held state {} by steps and {} in batches, ", held.steps, held.batched)?;
         write!(f, "{} readings, {} outputs, {} refused calls, ", held.readings, held.outputs, held.refused)?;
-        write!(f, "{}, {}, {}, {}, ", held.presses, held.buttons, held.pulses, held.waits)?;
+        write!(f, "{} names, ", held.names)?;
         write!(f, "{} packs, {} unpacks", self.packs, self.unpacks)
     }
 }

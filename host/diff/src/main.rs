@@ -4,18 +4,24 @@
 //!     diff [WORDS [SEED]]
 //!
 //! WORDS is how many words of generated lists are replayed at least (3,000,000 if not given), SEED where the
-//! generator begins. Each list is replayed in one call, and given to a held state twice: word by word, and in batches.
-//! Before them come the version, the paper's examples, each held against the paper's numbers, all packs and unpacks,
-//! every word as a list of its own, and the lists at the limit of a batch.
+//! generator begins. Each list is replayed in one call, and given to a held state twice: word by word, and in batches;
+//! half of them name kinds of controller between their words. Before them come the version, the paper's examples and
+//! stories, each held against the paper's numbers, all packs and unpacks, every word as a list of its own, and the lists
+//! at the limit of a batch.
 
 mod buttons;
 mod compare;
 mod counts;
+mod image;
+mod names;
 mod presses;
 mod pulses;
 mod run;
+mod second_kind;
+mod seen;
 mod shrink;
 mod sides;
+mod situations;
 mod tell;
 mod waits;
 mod walk;
@@ -58,6 +64,7 @@ fn main() -> ExitCode {
         print!("{}", told);
         return ExitCode::FAILURE;
     }
+    println!("{}", run.counts.held.seen);
     println!("seed {}: {} compared: 0 mismatches", seed, run.counts);
     ExitCode::SUCCESS
 }

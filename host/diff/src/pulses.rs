@@ -1,59 +1,34 @@
-//! Pulses that begin with LETR as the RESET left it: they show in the outputs where a RESET starts LETR, so the lists must
-//! come to them with the short pulse and without.
+//! Pulses of the first kind that begin with LETR as the RESET left it: they show in the outputs where a RESET starts
+//! LETR, so the lists must come to them with the short pulse and without.
 
-use std::fmt;
+use crate::image::{Image, DATA};
+use crate::situations::situations;
 
-/// Where things stand in an image.
-const LOCK_TIME: usize = 34;
-const PULSES: [usize; 2] = [42, 49];
-const PROGRESS: usize = 51;
-const REGISTER: usize = 52;
-
-/// The progress of a write whose data byte came.
-const DATA: u8 = 4;
-
-const RESET: u16 = 6;
 const STOP: u16 = 0x2000;
 const LETR: u8 = 0x40;
 
-/// How many began, by LETR.
-#[derive(Default)]
-pub struct Pulses {
-    unwritten: bool,
-    begun: [usize; 2],
-}
+situations!(
+    Pulses,
+    "pulses with LETR unwritten",
+    Long: "of 50 ticks",
+    Short: "short",
+);
 
 impl Pulses {
-    /// A word between these two images.
-    pub fn count(&mut self, word: u16, before: &[u8], after: &[u8]) {
-        if word >> 13 == RESET {
-            self.unwritten = true;
+    /// A word between these two images; LETR may have been written since the RESET.
+    pub fn count(&mut self, word: u16, before: Image, after: Image, written: bool) {
+        if word != STOP || written || before.progress()[0] != DATA {
+            return;
         }
-        if word == STOP && before[PROGRESS] == DATA {
-            self.unwritten &= before[REGISTER] != LETR;
-            let begun = PULSES.iter().filter(|&&pulse| after[pulse] > before[pulse]).count();
-            if self.unwritten {
-                self.begun[usize::from(after[LOCK_TIME] & 1)] += begun;
-            }
-        }
-    }
-
-    pub fn all_came(&self) -> bool {
-        self.begun.iter().all(|&came| came > 0)
-    }
-}
-
-impl std::ops::AddAssign for Pulses {
-    fn add_assign(&mut self, more: Pulses) {
-        for (sum, more) in self.begun.iter_mut().zip(more.begun) {
-            *sum += more;
+        for (was, is) in before.bays().into_iter().zip(after.bays()) {
+            let begun = is.pulse() > was.pulse();
+            self.came(Came::Long, begun && after.lock_time() == 1);
+            self.came(Came::Short, begun && after.lock_time() == 0);
         }
     }
 }
 
-impl fmt::Display for Pulses {
-    fn fmt(&self, f: &mut fmt::Formatter) -> fmt::Result {
-        let [short, long] = self.begun;
-        write!(f, "pulses with LETR unwritten {} of 50 ticks, {} short", long, short)
-    }
+/// Whether this word is the STOP of a write to LETR.
+pub fn writes_letr(word: u16, before: Image) -> bool {
+    word == STOP && matches!(before.progress(), [DATA, LETR, _])
 }

@@ -1,19 +1,17 @@
 //! What is asked, in order.
 
-use crate::buttons::Buttons;
 use crate::compare::{self, Mismatch, Question};
 use crate::counts::Counts;
-use crate::presses::Presses;
-use crate::pulses::Pulses;
-use crate::sides::{HELD, LIBRARY, MODEL, PLAIN};
+use crate::seen::Seen;
+use crate::sides::{HELD, LIBRARY, LIBRARY_BY_STEPS, LIBRARY_IN_BATCHES, MODEL, MODEL_IN_BATCHES, PLAIN};
 use crate::tell::{self, call_agrees, Failure};
-use crate::waits::Waits;
 use crate::walk::{self, Way};
 use model::{Controller, MOST_WORDS};
-use trial::{lists, Random, Room};
+use paper::{Step, Story};
+use trial::{lists, Call, Random, Room};
 
-/// What dock_version answers: 4.0, accepted.
-const VERSION: u32 = 0x0400;
+/// What dock_version answers: 5.0, accepted.
+const VERSION: u32 = 0x0500;
 
 /// Kinds that pack is asked for: the eight and two that do not exist.
 const KINDS: u8 = 10;
@@ -24,8 +22,8 @@ const FIRSTS: u16 = 1024;
 /// Second numbers that pack is asked for with every first.
 const SECONDS: [u8; 2] = [0x00, 0xBF];
 
-/// From so many generated words on, each kind of press, of button level, of pulse and of wait must have come.
-const TELLING: usize = 100_000;
+/// From so many generated words on, each situation must have come.
+const TELLING: usize = 1_000_000;
 
 /// Up to here a list is short enough for the C controller to be asked all 256 addresses, each from the whole list.
 const SHORT_LIST: usize = 40;
@@ -44,6 +42,7 @@ impl Run {
     pub fn everything(&mut self, words: usize) -> Result<(), Failure> {
         self.version()?;
         self.paper_examples()?;
+        self.paper_stories()?;
         self.all_packs()?;
         self.all_single_words()?;
         self.limits()?;
@@ -64,7 +63,19 @@ impl Run {
             for side in [LIBRARY, HELD, MODEL, PLAIN] {
                 example.holds(&side).map_err(|told| Failure(format!("mismatch: the paper's example {}", told)))?;
             }
-            self.list(&example.words)?;
+            self.list(&Call::list(&example.words))?;
+        }
+        Ok(())
+    }
+
+    /// What document 03 says of the second kind, likewise.
+    fn paper_stories(&mut self) -> Result<(), Failure> {
+        for story in paper::stories() {
+            self.counts.stories += 1;
+            let told = story.holds(&LIBRARY_IN_BATCHES).and(story.holds(&LIBRARY_BY_STEPS));
+            told.and(story.holds(&MODEL_IN_BATCHES))
+                .map_err(|told| Failure(format!("mismatch: the paper's story {}", told)))?;
+            self.list(&calls_of(&story))?;
         }
         Ok(())
     }
@@ -90,13 +101,18 @@ impl Run {
         call_agrees(compare::pack(kind, first, second), || format!("dock_pack({}, {}, {})", kind, first, second))
     }
 
-    /// Every word first of all, and every word right after a RESET.
+    /// Every word first of all, and every word right after a RESET into either kind; and every name.
     fn all_single_words(&mut self) -> Result<(), Failure> {
-        for word in 0..=u16::MAX {
-            for words in [&[word][..], &[0xC0BF, word]] {
-                self.replay(words, Room::Exact)?;
-                self.walk(words, Way::Steps)?;
+        let reset = Call::Word(0xC0BF);
+        for word in (0..=u16::MAX).map(Call::Word) {
+            for list in [&[word][..], &[reset, word]] {
+                self.replay(list, Room::Exact)?;
+                self.walk(list, Way::Steps)?;
             }
+            self.walk(&[Call::Name(2), reset, word], Way::Steps)?;
+        }
+        for name in (0..=u8::MAX).map(Call::Name) {
+            self.walk(&[name, reset, name, reset], Way::Steps)?;
         }
         Ok(())
     }
@@ -104,58 +120,61 @@ impl Run {
     /// The longest batch and one more, no words and one, with every kind of room.
     fn limits(&mut self) -> Result<(), Failure> {
         for length in [0, 1, 2, 3, MOST_WORDS - 1, MOST_WORDS, MOST_WORDS + 1, MOST_WORDS + 2] {
-            let words = lists::list(&mut self.random, length);
+            let list = Call::list(&lists::list(&mut self.random, length));
             for missing in 1..=4 {
-                self.replay(&words, Room::Short(missing))?;
-                self.replay(&words, Room::Spare(missing))?;
+                self.replay(&list, Room::Short(missing))?;
+                self.replay(&list, Room::Spare(missing))?;
             }
-            self.replay(&words, Room::Short(usize::MAX))?;
-            self.replay(&words, Room::Exact)?;
-            self.walks(&words)?;
+            self.replay(&list, Room::Short(usize::MAX))?;
+            self.replay(&list, Room::Exact)?;
+            self.walks(&list)?;
         }
         Ok(())
     }
 
+    /// Half of the lists are of the first kind alone, and half have names.
     fn generated(&mut self, words: usize) -> Result<(), Failure> {
         let enough = self.counts.words + words;
-        self.counts.held.presses = Presses::default();
-        self.counts.held.buttons = Buttons::default();
-        self.counts.held.pulses = Pulses::default();
-        self.counts.held.waits = Waits::default();
+        self.counts.held.seen = Seen::default();
         while self.counts.words < enough {
             self.random = Random::new(self.seed, self.counts.lists as u64 + 1);
             let length = lists::length(&mut self.random);
-            let words = lists::list(&mut self.random, length);
-            self.list(&words)?;
+            let list = if self.random.one_in(2) {
+                Call::list(&lists::list(&mut self.random, length))
+            } else {
+                lists::mixed(&mut self.random, length)
+            };
+            self.list(&list)?;
         }
         self.rules_told_apart(words)
     }
 
     fn rules_told_apart(&self, words: usize) -> Result<(), Failure> {
-        let held = &self.counts.held;
-        let of_inputs = held.presses.all_came() && held.buttons.all_came();
-        let all_came = of_inputs && held.pulses.all_came() && held.waits.all_came();
-        if words < TELLING || all_came {
+        let missing = self.counts.held.seen.missing();
+        if words < TELLING || missing.is_empty() {
             return Ok(());
         }
-        let came = format!("{}; {}; {}; {}", held.presses, held.buttons, held.pulses, held.waits);
-        Err(Failure(format!("seed {}: the lists can't tell one rule from another: {}\n", self.seed, came)))
+        let told = missing.join("; ");
+        Err(Failure(format!(
+            "seed {}: the lists can't tell one rule from another: none came of: {}\n",
+            self.seed, told
+        )))
     }
 
-    /// All that is asked of one list.
-    fn list(&mut self, words: &[u16]) -> Result<(), Failure> {
+    /// All that is asked of one list. A replay and the C controller are given its words alone.
+    fn list(&mut self, list: &[Call]) -> Result<(), Failure> {
         let room = self.room();
-        self.replay(words, room)?;
-        self.walks(words)?;
-        if words.len() <= MOST_WORDS {
-            self.c_controller(words)?;
+        self.replay(list, room)?;
+        self.walks(list)?;
+        if list.len() <= MOST_WORDS {
+            self.c_controller(&Call::words(list))?;
         }
         Ok(())
     }
 
-    fn walks(&mut self, words: &[u16]) -> Result<(), Failure> {
-        self.walk(words, Way::Steps)?;
-        self.walk(words, Way::Batches)
+    fn walks(&mut self, list: &[Call]) -> Result<(), Failure> {
+        self.walk(list, Way::Steps)?;
+        self.walk(list, Way::Batches)
     }
 
     /// The C controller answers each question from the whole list, so longer lists get fewer.
@@ -184,32 +203,42 @@ impl Run {
         }
     }
 
-    fn replay(&mut self, words: &[u16], room: Room) -> Result<(), Failure> {
+    fn replay(&mut self, list: &[Call], room: Room) -> Result<(), Failure> {
         self.counts.lists += 1;
-        match compare::replay(words, room) {
+        match compare::replay(&Call::words(list), room) {
             Ok(records) => {
                 self.counts.words += records;
                 Ok(())
             }
-            Err(mismatch) => Err(tell::failure(self.seed, &self.counts, mismatch, Question::Replay(room), words)),
+            Err(mismatch) => Err(tell::failure(self.seed, &self.counts, mismatch, Question::Replay(room), list)),
         }
     }
 
-    fn walk(&mut self, words: &[u16], way: Way) -> Result<(), Failure> {
+    fn walk(&mut self, list: &[Call], way: Way) -> Result<(), Failure> {
         let seed = self.random.word().into();
-        match walk::walk(words, way, seed) {
+        match walk::walk(list, way, seed) {
             Ok(counts) => {
                 self.counts.held += counts;
                 Ok(())
             }
-            Err(mismatch) => Err(tell::failure(self.seed, &self.counts, mismatch, Question::Walk(way, seed), words)),
+            Err(mismatch) => Err(tell::failure(self.seed, &self.counts, mismatch, Question::Walk(way, seed), list)),
         }
     }
 
     fn agrees(&self, mismatch: Option<Mismatch>, question: Question, words: &[u16]) -> Result<(), Failure> {
         match mismatch {
             None => Ok(()),
-            Some(mismatch) => Err(tell::failure(self.seed, &self.counts, mismatch, question, words)),
+            Some(mismatch) => Err(tell::failure(self.seed, &self.counts, mismatch, question, &Call::list(words))),
         }
     }
+}
+
+/// The story's words and names, without what is asked between them.
+fn calls_of(story: &Story) -> Vec<Call> {
+    let of_step = |step: &Step| match step {
+        Step::Name { number, .. } => vec![Call::Name(*number)],
+        Step::Words(words) => Call::list(words),
+        Step::Records(_) | Step::Reads(..) | Step::Outputs(_) => Vec::new(),
+    };
+    story.steps.iter().flat_map(of_step).collect()
 }

@@ -4,8 +4,8 @@
 const MOST_TRIES: usize = 2_000;
 
 /// Takes out ever smaller parts for as long as the list still shows what it showed.
-pub fn shrink(words: &[u16], still_shows: impl Fn(&[u16]) -> bool) -> Vec<u16> {
-    let mut kept = words.to_vec();
+pub fn shrink<T: Clone>(list: &[T], still_shows: impl Fn(&[T]) -> bool) -> Vec<T> {
+    let mut kept = list.to_vec();
     let mut part = (kept.len() / 2).max(1);
     let mut tries = 0;
     loop {
@@ -18,7 +18,7 @@ pub fn shrink(words: &[u16], still_shows: impl Fn(&[u16]) -> bool) -> Vec<u16> {
     }
 }
 
-fn take_out_parts(kept: &mut Vec<u16>, part: usize, tries: &mut usize, still_shows: &impl Fn(&[u16]) -> bool) {
+fn take_out_parts<T: Clone>(kept: &mut Vec<T>, part: usize, tries: &mut usize, still_shows: &impl Fn(&[T]) -> bool) {
     let mut start = 0;
     while start < kept.len() && *tries < MOST_TRIES {
         *tries += 1;

@@ -3,22 +3,23 @@
 use crate::compare::{self, Mismatch, Question};
 use crate::counts::Counts;
 use crate::shrink;
+use trial::Call;
 
-/// How many words of a long mismatching list are printed as they were; the shortened list is printed whole.
-const SHOWN_WORDS: usize = 400;
+/// How many calls of a long mismatching list are printed as they were; the shortened list is printed whole.
+const SHOWN_CALLS: usize = 400;
 
 pub struct Failure(pub String);
 
 /// With the list as it was, and shortened as far as it still shows the mismatch.
-pub fn failure(seed: u64, counts: &Counts, mismatch: Mismatch, question: Question, words: &[u16]) -> Failure {
-    let short = shrink::shrink(words, |fewer| compare::ask(question, fewer).is_some());
+pub fn failure(seed: u64, counts: &Counts, mismatch: Mismatch, question: Question, list: &[Call]) -> Failure {
+    let short = shrink::shrink(list, |fewer| compare::ask(question, fewer).is_some());
     let mut told = format!(
         "mismatch: seed {}, list {}, after {} words compared\n",
         seed,
         counts.lists,
         counts.words + mismatch.position.unwrap_or(0)
     );
-    told += &tell(words, &mismatch);
+    told += &tell(list, &mismatch);
     if let Some(shortened) = compare::ask(question, &short) {
         told += "shortened:\n";
         told += &tell(&short, &shortened);
@@ -26,16 +27,16 @@ pub fn failure(seed: u64, counts: &Counts, mismatch: Mismatch, question: Questio
     Failure(told)
 }
 
-fn tell(words: &[u16], mismatch: &Mismatch) -> String {
-    let shown: Vec<String> = words.iter().take(SHOWN_WORDS).map(|word| format!("{:04X}", word)).collect();
-    let more = if words.len() > SHOWN_WORDS { " .." } else { "" };
-    let position = mismatch.position.map_or("the whole answer".to_string(), |place| match words.get(place) {
-        Some(word) => format!("position {}, word {:04X}", place, word),
+fn tell(list: &[Call], mismatch: &Mismatch) -> String {
+    let shown: Vec<String> = list.iter().take(SHOWN_CALLS).map(Call::to_string).collect();
+    let more = if list.len() > SHOWN_CALLS { " .." } else { "" };
+    let position = mismatch.position.map_or("the whole answer".to_string(), |place| match list.get(place) {
+        Some(call) => format!("position {}, {}", place, call),
         None => "after the last word".to_string(),
     });
     format!(
-        "  list of {} words: {}{}\n  asked: {}\n  at: {}\n{}",
-        words.len(),
+        "  list of {} words and names: {}{}\n  asked: {}\n  at: {}\n{}",
+        list.len(),
         shown.join(" "),
         more,
         mismatch.asked,

@@ -1,14 +1,12 @@
-//! A list of words through one held state: begun, given the words by and by, with questions and refused calls between.
+//! A list of calls through one held state: begun, given the words and the names by and by, with questions and refused
+//! calls between.
 
-use crate::buttons::Buttons;
 use crate::compare::Mismatch;
-use crate::presses::Presses;
-use crate::pulses::Pulses;
+use crate::seen::{self, Seen};
 use crate::sides::LIBRARY;
-use crate::waits::{self, Waits};
-use trial::{held, hex, lists, Held, Random, Room, TOO_MANY};
+use trial::{held, hex, lists, Call, Held, Random, Room, TOO_MANY};
 
-/// How the words are given: one at a time, or in batches that are cut anywhere.
+/// How the words are given: one at a time, or in batches that are cut anywhere and at names.
 #[derive(Clone, Copy, Debug)]
 pub enum Way {
     Steps,
@@ -22,10 +20,8 @@ pub struct Counts {
     pub readings: usize,
     pub outputs: usize,
     pub refused: usize,
-    pub presses: Presses,
-    pub buttons: Buttons,
-    pub pulses: Pulses,
-    pub waits: Waits,
+    pub names: usize,
+    pub seen: Seen,
 }
 
 impl std::ops::AddAssign for Counts {
@@ -35,20 +31,18 @@ impl std::ops::AddAssign for Counts {
         self.readings += more.readings;
         self.outputs += more.outputs;
         self.refused += more.refused;
-        self.presses += more.presses;
-        self.buttons += more.buttons;
-        self.pulses += more.pulses;
-        self.waits += more.waits;
+        self.names += more.names;
+        self.seen += more.seen;
     }
 }
 
 const TICK: u16 = 0xA000;
 
-/// The same words, way and seed walk alike. Tells the word at which the walk was.
-pub fn walk(words: &[u16], way: Way, seed: u64) -> Result<Counts, Mismatch> {
+/// The same list, way and seed walk alike. Tells the call at which the walk was.
+pub fn walk(list: &[Call], way: Way, seed: u64) -> Result<Counts, Mismatch> {
     let mut walk = Walk { random: Random::new(seed, way as u64), counts: Counts::default() };
     let mut given = 0;
-    walk.all(words, way, &mut given).map(|()| walk.counts).map_err(|mismatch| Mismatch {
+    walk.all(list, way, &mut given).map(|()| walk.counts).map_err(|mismatch| Mismatch {
         position: Some(given),
         asked: mismatch.asked,
         side: LIBRARY.name,
@@ -58,11 +52,11 @@ pub fn walk(words: &[u16], way: Way, seed: u64) -> Result<Counts, Mismatch> {
 }
 
 /// Of library and model, which agree on the state: it is one that the paper has words lead to.
-fn is_reached(word: u16, image: &[u8]) -> Result<(), held::Mismatch> {
-    if waits::are_in_place(image) {
+fn is_reached(call: Call, image: &[u8]) -> Result<(), held::Mismatch> {
+    if seen::is_reached(image) {
         return Ok(());
     }
-    let asked = format!("word {:04X}h, a state that no words lead to", word);
+    let asked = format!("{}, a state that no words lead to", call);
     Err(held::Mismatch { asked, library: hex(image), model: "the same".to_string() })
 }
 
@@ -72,13 +66,13 @@ struct Walk {
 }
 
 impl Walk {
-    fn all(&mut self, words: &[u16], way: Way, given: &mut usize) -> Result<(), held::Mismatch> {
+    fn all(&mut self, list: &[Call], way: Way, given: &mut usize) -> Result<(), held::Mismatch> {
         let mut held = Held::begun()?;
         self.questions(&mut held)?;
-        while *given < words.len() {
-            *given += match way {
-                Way::Steps => self.step(&mut held, words[*given])?,
-                Way::Batches => self.batch(&mut held, &words[*given..])?,
+        while *given < list.len() {
+            *given += match (way, list[*given]) {
+                (Way::Batches, Call::Word(_)) => self.batch(&mut held, &Call::until_name(&list[*given..]))?,
+                (_, call) => self.call(&mut held, call)?,
             };
             if self.random.one_in(16) {
                 self.questions(&mut held)?;
@@ -91,17 +85,17 @@ impl Walk {
         self.questions(&mut held)
     }
 
-    fn step(&mut self, held: &mut Held, word: u16) -> Result<usize, held::Mismatch> {
-        self.counts.steps += 1;
-        let before = held.bytes().to_vec();
-        held.step(word)?;
-        if word == TICK {
-            self.counts.presses.count(&before, held.bytes());
+    fn call(&mut self, held: &mut Held, call: Call) -> Result<usize, held::Mismatch> {
+        match call {
+            Call::Word(_) => self.counts.steps += 1,
+            Call::Name(_) => self.counts.names += 1,
         }
-        self.counts.buttons.count(word, &before, held.bytes());
-        self.counts.pulses.count(word, &before, held.bytes());
-        self.counts.waits.count(word, &before, held.bytes());
-        is_reached(word, held.bytes())?;
+        let before = held.bytes().to_vec();
+        held.call(call)?;
+        if let Some(dock) = held.model() {
+            self.counts.seen.count(call, &before, held.bytes(), dock);
+        }
+        is_reached(call, held.bytes())?;
         Ok(1)
     }
 
@@ -150,9 +144,11 @@ impl Walk {
     }
 
     fn every_call(&mut self, state: &[u8]) -> Result<(), held::Mismatch> {
-        self.counts.refused += 7;
+        self.counts.refused += 9;
         let mut held = Held::of_bytes(state);
         held.begin()?;
+        held.name_kind(2)?;
+        held.name_kind(3)?;
         held.step(TICK)?;
         held.batch(&[TICK; 2], Room::Exact)?;
         held.batch(&[TICK; 2], Room::Short(1))?;

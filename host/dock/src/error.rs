@@ -12,6 +12,7 @@ pub enum Refusal {
     ShortAnswers = 4,
     TooManyWords = 5,
     WideStraps = 6,
+    NoSuchKind = 14,
 }
 
 impl TryFrom<u16> for Refusal {
@@ -26,6 +27,7 @@ impl TryFrom<u16> for Refusal {
             4 => Refusal::ShortAnswers,
             5 => Refusal::TooManyWords,
             6 => Refusal::WideStraps,
+            14 => Refusal::NoSuchKind,
             _ => return Err(Unnamed { what: "refusal", number: u32::from(number) }),
         })
     }
@@ -40,6 +42,7 @@ impl fmt::Display for Refusal {
             Refusal::ShortAnswers => "fewer than four record bytes for each word",
             Refusal::TooManyWords => "more than 16,384 words",
             Refusal::WideStraps => "straps above 15",
+            Refusal::NoSuchKind => "a number that no kind of controller has",
         })
     }
 }

@@ -32,7 +32,8 @@ pub enum Event {
     },
     Pins(u8),
     Tick,
-    /// LETR then starts at 1, 50 ticks, or with `short_pulse` at 0, 12 ticks.
+    /// LETR then starts at 1, 50 ticks, or with `short_pulse` at 0, 12 ticks. The second kind has no LETR, and passes
+    /// `short_pulse` by.
     Reset {
         straps: u8,
         levels: u8,

@@ -18,6 +18,7 @@ extern "C" {
     ) -> u32;
     fn dock_reading(state: *const u8, state_len: u64, address: u8) -> u32;
     fn dock_outputs(state: *const u8, state_len: u64) -> u32;
+    fn dock_name_kind(state: *mut u8, state_len: u64, kind: u8) -> u32;
     fn dock_replay(words: *const u16, words_len: u64, records: *mut u8, records_len: u64) -> u32;
     fn dock_pack(kind: u8, first: u16, second: u8) -> u32;
     fn dock_unpack(word: u16) -> u32;
@@ -57,6 +58,11 @@ pub fn reading(state: &[u8], address: u8) -> u32 {
 pub fn outputs(state: &[u8]) -> u32 {
     // SAFETY: the slice goes with its own length; the call only reads.
     unsafe { dock_outputs(state.as_ptr(), len(state)) }
+}
+
+pub fn name_kind(state: &mut [u8], kind: u8) -> u32 {
+    // SAFETY: the slice is lent for writing, and its own length goes with it.
+    unsafe { dock_name_kind(state.as_mut_ptr(), len(state), kind) }
 }
 
 pub fn replay(words: &[u16], records: &mut [u8]) -> u32 {

@@ -1,7 +1,12 @@
 //! A controller that the program holds.
 
 use crate::answer::{byte, value};
-use crate::{check_library, ffi, Bay, Error, Event, Outputs, Record, Refusal, Register, Status, Step, STATE_BYTES};
+use crate::{check_library, ffi, Error, Event, Record, Refusal, Step, STATE_BYTES};
+use crate::{Bay, Kind, Outputs, Register, SecondRegister, Status};
+
+/// Where an image has its flags for the second kind: in force, and named.
+const KIND: usize = 2;
+const NAMED: usize = 3;
 
 /// A controller, held as the image of its state: [`STATE_BYTES`] bytes that can be kept anywhere and put back.
 ///
@@ -40,7 +45,7 @@ impl Dock {
 
     /// The controller that was kept as these bytes. Any bytes may come: what is no image of a fit state, by its length
     /// or by what it holds, is refused with [`Refusal::UnfitState`], and so is an image of an older layout, such as a
-    /// library before 4.0 kept: then begin anew. A library that isn't this crate's is told as by [`Dock::new`].
+    /// library before 5.0 kept: then begin anew. A library that isn't this crate's is told as by [`Dock::new`].
     ///
     /// ```
     /// use dock::{Dock, Error, Refusal};
@@ -98,14 +103,64 @@ impl Dock {
         Ok(value(ffi::batch(&mut self.image, words, records))?.into())
     }
 
+    /// Names the kind of controller. It comes into force with the next RESET and stays for later ones; until then
+    /// nothing changes, not even inside a transfer. It is no event, and is taken before the first RESET too.
+    ///
+    /// ```
+    /// use dock::{Bay, Dock, Event, Kind, SecondRegister};
+    ///
+    /// let mut dock = Dock::new()?;
+    /// dock.name_kind(Kind::Second)?;
+    /// assert_eq!((dock.kind(), dock.named()), (Kind::First, Kind::Second));
+    /// dock.event(Event::Reset { straps: 0, levels: 0xBF, short_pulse: false })?; // a USB device in bay 0
+    /// assert_eq!(dock.kind(), Kind::Second);
+    /// for event in dock::write(0x90, SecondRegister::control(Bay::Zero), 0x04) {
+    ///     dock.event(event)?;
+    /// }
+    /// assert_eq!(dock.status(Bay::Zero)?.to_string(), "15h, Inserted, device status changed, USB device present");
+    /// # Ok::<(), dock::Error>(())
+    /// ```
+    pub fn name_kind(&mut self, kind: Kind) -> Result<(), Error> {
+        self.name_kind_number(kind.into())
+    }
+
+    /// The same by a number, such as a setting of the board's: 1 or 2, and else it is refused with
+    /// [`Refusal::NoSuchKind`] and changes nothing.
+    ///
+    /// ```
+    /// use dock::{Dock, Refusal};
+    ///
+    /// let mut dock = Dock::new()?;
+    /// dock.name_kind_number(2)?;
+    /// assert_eq!(dock.name_kind_number(3), Err(Refusal::NoSuchKind.into()));
+    /// # Ok::<(), dock::Error>(())
+    /// ```
+    pub fn name_kind_number(&mut self, number: u8) -> Result<(), Error> {
+        value(ffi::name_kind(&mut self.image, number)).map(|_| ())
+    }
+
+    /// The kind in force: the first before any RESET, and then the one that was named at the last.
+    pub fn kind(&self) -> Kind {
+        Kind::by_flag(self.image[KIND])
+    }
+
+    /// The kind that the next RESET puts in force.
+    pub fn named(&self) -> Kind {
+        Kind::by_flag(self.image[NAMED])
+    }
+
     /// What the register at the address reads, outside the bus.
     pub fn reading(&self, address: u8) -> Result<u8, Error> {
         byte(ffi::reading(&self.image, address))
     }
 
-    /// A bay's status register, taken apart.
+    /// A bay's status register, taken apart; it has another address in each kind.
     pub fn status(&self, bay: Bay) -> Result<Status, Error> {
-        Ok(Status::try_from(self.reading(Register::status(bay))?)?)
+        let address = match self.kind() {
+            Kind::First => Register::status(bay),
+            Kind::Second => SecondRegister::status(bay),
+        };
+        Ok(Status::try_from(self.reading(address)?)?)
     }
 
     /// The nine outputs.

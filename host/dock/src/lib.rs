@@ -16,6 +16,9 @@
 //! # Ok::<(), dock::Error>(())
 //! ```
 //!
+//! It is a controller of the first [`Kind`], the DBC98C51, or of the second, the CDP1020 of older backplanes:
+//! [`Dock::name_kind`] says which, from the next RESET on. A whole history in one call ([`replay`]) is of the first.
+//!
 //! Any words, any numbers, any bytes and slices of any length are taken: a call returns, and what it cannot do it
 //! refuses and changes nothing. No call panics. A number that this version has no name for is an error.
 //!
@@ -29,6 +32,7 @@ mod error;
 mod event;
 pub mod ffi;
 mod held;
+mod kind;
 mod outputs;
 mod register;
 mod reply;
@@ -38,15 +42,16 @@ pub use answer::{records, Record, Step};
 pub use error::{Error, Refusal, Unnamed};
 pub use event::{read, write, Event};
 pub use held::Dock;
+pub use kind::Kind;
 pub use outputs::Outputs;
-pub use register::{Bay, BayState, Register, Status};
+pub use register::{Bay, BayState, Register, SecondRegister, Status};
 pub use reply::Reply;
 pub use version::{check_library, version, Version, WRITTEN_FOR};
 
 use answer::{numbers, value};
 
 /// The bytes of a state's image.
-pub const STATE_BYTES: usize = 54;
+pub const STATE_BYTES: usize = 74;
 
 /// The most words of one call; a longer list is refused with [`Refusal::TooManyWords`].
 pub const MOST_WORDS: usize = 16_384;
@@ -54,7 +59,7 @@ pub const MOST_WORDS: usize = 16_384;
 /// The bytes of one record.
 pub const RECORD_BYTES: usize = 4;
 
-/// A whole history in one call: the words from a fresh controller, with records as [`Dock::batch`] writes them.
+/// A whole history in one call: the words from a fresh controller, which is of the first kind, with records as [`Dock::batch`] writes them.
 ///
 /// ```
 /// let mut records = [0; 8];

@@ -19,7 +19,7 @@ impl fmt::Display for Bay {
     }
 }
 
-/// Register addresses.
+/// Register addresses of the first kind.
 pub struct Register;
 
 impl Register {
@@ -40,6 +40,37 @@ impl Register {
             Bay::Zero => 0x14,
             Bay::One => 0x1C,
         }
+    }
+}
+
+/// Register addresses of the second kind. Its writes and reads may go on from one address to the next, FFh to 00h.
+pub struct SecondRegister;
+
+impl SecondRegister {
+    /// Subsystem vendor and subsystem, two bytes each, the low one first; each byte is written once after each RESET.
+    pub const SUBSYSTEM: u8 = 0x08;
+    /// Written once after each RESET.
+    pub const CAPABILITIES: u8 = 0x0C;
+    /// SFR: bits 7-5 the insertion time-out, 4-1 the lock pulse, 0 its unit; written once after each RESET.
+    pub const FEATURES: u8 = 0xFC;
+
+    pub fn status(bay: Bay) -> u8 {
+        match bay {
+            Bay::Zero => 0x14,
+            Bay::One => 0x20,
+        }
+    }
+
+    pub fn control(bay: Bay) -> u8 {
+        match bay {
+            Bay::Zero => 0x10,
+            Bay::One => 0x18,
+        }
+    }
+
+    /// BAY_FF, the byte after the status: written once in the controller's life.
+    pub fn form_factor(bay: Bay) -> u8 {
+        SecondRegister::status(bay) + 1
     }
 }
 
@@ -80,7 +111,7 @@ impl fmt::Display for BayState {
     }
 }
 
-/// A reading of a bay's status register.
+/// A reading of a bay's status register, whose bits both kinds have in the same places.
 ///
 /// ```
 /// use dock::{BayState, Status};

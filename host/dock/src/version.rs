@@ -6,7 +6,7 @@ use core::fmt;
 
 /// The first number of the library that this crate was written for. It rises where a program built on an older one
 /// would misread or misuse a call.
-pub const WRITTEN_FOR: u8 = 4;
+pub const WRITTEN_FOR: u8 = 5;
 
 /// The version of the linked library.
 #[derive(Clone, Copy, PartialEq, Eq, Debug)]

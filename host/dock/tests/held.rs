@@ -1,7 +1,7 @@
 //! The wrapper's own part: what it makes of the library's numbers, and what it keeps on a refusal.
 
 use dock::{records, BayState, Dock, Error, Event, Outputs, Record, Refusal, Reply, Status, STATE_BYTES};
-use dock::{Bay, Register, MOST_WORDS};
+use dock::{Bay, Kind, Register, SecondRegister, MOST_WORDS};
 
 const RESET: u16 = 0xC0BF;
 const TICK: u16 = 0xA000;
@@ -76,8 +76,8 @@ fn only_images_of_fit_states_come_back() {
     for length in 0..STATE_BYTES {
         assert_eq!(Dock::from_bytes(&dock.bytes()[..length]), refused(Refusal::UnfitState));
     }
-    // Layouts 1 and 2 are what libraries before 4.0 saved, in 51 bytes.
-    for (place, byte) in [(0, 0), (0, 1), (0, 2), (0, 4), (1, 2), (36, 200), (51, 7), (52, 1)] {
+    // Layouts 1 to 3 are what libraries before 5.0 saved, in 51 or 54 bytes.
+    for (place, byte) in [(0, 0), (0, 1), (0, 2), (0, 3), (0, 5), (1, 2), (45, 200), (50, 8), (71, 9), (72, 1)] {
         assert_eq!(Dock::from_bytes(&with(&dock, place, byte)), refused(Refusal::UnfitState));
     }
 }
@@ -85,7 +85,7 @@ fn only_images_of_fit_states_come_back() {
 #[test]
 fn a_saved_count_is_below_its_inputs_ticks() {
     let dock = started();
-    let most = [9, 9, 4].into_iter().zip(37..).chain([9, 9, 4].into_iter().zip(44..));
+    let most = [9, 9, 4].into_iter().zip(53..).chain([9, 9, 4].into_iter().zip(62..));
     for (most, place) in most {
         assert!(Dock::from_bytes(&with(&dock, place, most)).is_ok());
         assert_eq!(Dock::from_bytes(&with(&dock, place, most + 1)), refused(Refusal::UnfitState));
@@ -95,8 +95,77 @@ fn a_saved_count_is_below_its_inputs_ticks() {
 #[test]
 fn any_saved_wait_comes_back() {
     let dock = started();
-    for place in [35, 43, 50] {
+    for place in [44, 61, 70] {
         assert!((0..=255).all(|wait| Dock::from_bytes(&with(&dock, place, wait)).is_ok()));
+    }
+}
+
+#[test]
+fn a_saved_wait_is_fit_by_the_kind_in_force() {
+    let mut dock = started();
+    for (kind, longest) in [(Kind::First, [0, 255]), (Kind::Second, [2, 48])] {
+        dock.name_kind(kind).unwrap();
+        dock.step(RESET).unwrap();
+        let waiting = |high, low| {
+            let mut bytes = *dock.bytes();
+            bytes[60..62].copy_from_slice(&[high, low]);
+            Dock::from_bytes(&bytes)
+        };
+        let [high, low] = longest;
+        assert!(waiting(high, low).is_ok());
+        assert_eq!(waiting(high + 1, low), refused(Refusal::UnfitState));
+    }
+}
+
+#[test]
+fn a_kind_comes_with_the_next_reset_and_stays() {
+    let mut dock = Dock::new().unwrap();
+    assert_eq!((dock.kind(), dock.named()), (Kind::First, Kind::First));
+    dock.name_kind(Kind::Second).unwrap();
+    assert_eq!((dock.kind(), dock.named()), (Kind::First, Kind::Second));
+    for _ in 0..2 {
+        dock.step(RESET).unwrap();
+        assert_eq!((dock.kind(), dock.named()), (Kind::Second, Kind::Second));
+        assert_eq!(dock.reading(0x00), Ok(0x60));
+        assert_eq!(dock.status(Bay::Zero).unwrap().bits(), 0x05);
+    }
+    dock.name_kind(Kind::First).unwrap();
+    assert_eq!(dock.reading(0x00), Ok(0x60));
+    dock.step(RESET).unwrap();
+    assert_eq!((dock.kind(), dock.reading(0x00)), (Kind::First, Ok(0x55)));
+    assert_eq!(dock.status(Bay::Zero).unwrap().bits(), 0x05);
+}
+
+#[test]
+fn a_number_of_no_kind_leaves_the_image() {
+    let mut dock = started();
+    dock.event(Event::Start).unwrap();
+    let before = dock.clone();
+    for number in (0..=u8::MAX).filter(|&number| Kind::try_from(number).is_err()) {
+        assert_eq!(dock.name_kind_number(number), refused(Refusal::NoSuchKind));
+    }
+    assert_eq!(dock, before);
+    for kind in [Kind::First, Kind::Second] {
+        assert_eq!(Kind::try_from(u8::from(kind)), Ok(kind));
+        dock.name_kind_number(kind.into()).unwrap();
+        assert_eq!(dock.named(), kind);
+    }
+}
+
+#[test]
+fn a_device_of_the_second_kind_waits_unseen() {
+    let mut dock = Dock::new().unwrap();
+    dock.name_kind(Kind::Second).unwrap();
+    dock.event(Event::Reset { straps: 0, levels: 0xFF, short_pulse: false }).unwrap();
+    for (register, value) in [(SecondRegister::FEATURES, 0x20), (SecondRegister::control(Bay::Zero), 0x04)] {
+        dock::write(0x90, register, value).iter().for_each(|&event| assert!(dock.event(event).is_ok()));
+    }
+    dock.event(Event::Pins(0xBF)).unwrap();
+    for tick in 1..=90 {
+        dock.event(Event::Tick).unwrap();
+        let status = dock.status(Bay::Zero).unwrap();
+        assert_eq!(status.has_usb(), tick == 90);
+        assert_eq!(status.state() == BayState::Inserted, tick == 90);
     }
 }
 
@@ -155,8 +224,9 @@ fn records_are_read_as_the_paper_packs_them() {
 
 #[test]
 fn numbers_without_a_name_are_told() {
-    assert!((1..=6).all(|number| Refusal::try_from(number).map(|refusal| refusal as u16) == Ok(number)));
-    assert!([0, 7, 15, 0xFFFF].iter().all(|&number| Refusal::try_from(number).is_err()));
+    let mut refusals = (1..=6).chain([14]);
+    assert!(refusals.all(|number| Refusal::try_from(number).map(|refusal| refusal as u16) == Ok(number)));
+    assert!([0, 7, 13, 15, 0xFFFF].iter().all(|&number| Refusal::try_from(number).is_err()));
     assert!((5..=7).all(|state| BayState::try_from(state).is_err() && Status::try_from(state << 4).is_err()));
     assert!(Outputs::try_from(0x1FF).is_ok());
     assert!(Outputs::try_from(0x200).is_err());

@@ -1,5 +1,4 @@
-//! A controller as 54 bytes, and back. Every fit state has one image, and no other bytes give it, as long as the
-//! controller has known the first kind alone: the layout has no place for the second.
+//! A controller as 74 bytes, and back. Every fit state has one image, and no other bytes give it.
 //!
 //! In order: the version of the layout; the flags, each 0 or 1, of the controller and of either bay; the numbers, of
 //! the controller and of either bay; the command in progress with the two bytes that it may hold, 0 where it has none.
@@ -7,43 +6,59 @@
 
 use crate::bay::{Bay, Control, State, DEBOUNCED, NSL};
 use crate::bus::Command;
-use crate::second::Registers;
+use crate::second::{Once, Registers};
 use crate::{Controller, Kind};
+use std::ops::Range;
 
 /// The length of an image.
-pub const STATE_BYTES: usize = 54;
+pub const STATE_BYTES: usize = 74;
 
-const VERSION: u8 = 3;
+const VERSION: u8 = 4;
 
-/// The last of each number that the paper calls fit; that of a debounce count follows from its input. A wait, 42h's or
-/// one that runs, may be any byte.
+/// The flags, and the command in progress.
+const FLAGS: Range<usize> = 1..41;
+const PROGRESS: Range<usize> = 71..STATE_BYTES;
+
+/// The last of each number that the paper calls fit, in both kinds; that of a debounce count follows from its input.
+/// Any byte is a wait in 42h, one of 08h to 0Bh, or SFR.
 const MOST_STRAPS: u8 = 15;
 const MOST_BAY_COUNT: u8 = 3;
 const MOST_LOCK_TIME: u8 = 3;
 const MOST_PHASE: u8 = 199;
+const MOST_FORM_FACTOR: u8 = 7;
 const MOST_REQUEST: u8 = 4;
-const MOST_PULSE: u8 = 200;
 
-const NO_PLACE: &str = "an image has no place for the second kind";
+/// The last of what the kinds have in different ranges: a bay's pulse and its wait, in ticks.
+struct MostTicks {
+    pulse: u16,
+    wait: u16,
+}
+
+fn most_ticks(kind: Kind) -> MostTicks {
+    match kind {
+        Kind::First => MostTicks { pulse: 200, wait: 255 },
+        Kind::Second => MostTicks { pulse: 1200, wait: 560 },
+    }
+}
 
 impl Controller {
-    /// The image of a controller that holds nothing of the second kind; of any other there is none, and this panics.
     pub fn image(&self) -> [u8; STATE_BYTES] {
-        assert!(self.is_first_alone(), "{}", NO_PLACE);
         let mut image = Writer { bytes: [0; STATE_BYTES], next: 0 };
+        let Registers { subsystem, features, form_factors } = self.second;
         image.put(VERSION);
-        image.flags(&[self.started, self.capabilities_written, self.security_lock]);
+        image.flags(&[self.started, self.kind == Kind::Second, self.named == Kind::Second]);
+        image.flags(&[self.capabilities_written, self.security_lock]);
+        image.flags(&subsystem.map(|byte| byte.written));
+        image.flags(&form_factors.map(|byte| byte.written));
+        image.flags(&[features.written]);
         self.bays.iter().for_each(|bay| image.bay_flags(bay));
         image.numbers(&[self.straps, self.bay_count, self.lock_time, self.wait_time, self.phase]);
+        image.numbers(&subsystem.map(|byte| byte.value));
+        image.numbers(&form_factors.map(|byte| byte.value));
+        image.numbers(&[features.value]);
         self.bays.iter().for_each(|bay| image.bay_numbers(bay));
         image.numbers(&progress(self.command));
         image.bytes
-    }
-
-    fn is_first_alone(&self) -> bool {
-        [self.kind, self.named] == [Kind::First; 2]
-            && self.command.is_of(Kind::First)
-            && self.second == Registers::default()
     }
 
     /// The controller that has this image; none where the bytes are no image, or that of a state that is not fit.
@@ -51,20 +66,35 @@ impl Controller {
         if !is_image(bytes) {
             return None;
         }
-        let mut image = Reader { bytes, next: 1 };
-        let [started, capabilities_written, security_lock] = [image.flag(), image.flag(), image.flag()];
+        let mut image = Reader { bytes, next: FLAGS.start };
+        let started = image.flag();
+        let [kind, named] = [image.kind(), image.kind()];
+        let [capabilities_written, security_lock] = [image.flag(), image.flag()];
+        let mut second = Registers::default();
+        image.written(&mut second.subsystem);
+        image.written(&mut second.form_factors);
+        second.features.written = image.flag();
         let mut bays = [image.bay_flags(), image.bay_flags()];
         let straps = image.number(MOST_STRAPS)?;
         let bay_count = image.number(MOST_BAY_COUNT)?;
         let lock_time = image.number(MOST_LOCK_TIME)?;
         let wait_time = image.take();
         let phase = image.number(MOST_PHASE)?;
+        for byte in &mut second.subsystem {
+            byte.value = image.take();
+        }
+        for byte in &mut second.form_factors {
+            byte.value = image.number(MOST_FORM_FACTOR)?;
+        }
+        second.features.value = image.take();
         for bay in &mut bays {
-            image.bay_numbers(bay)?;
+            image.bay_numbers(bay, most_ticks(kind))?;
         }
         let command = command([image.take(), image.take(), image.take()])?;
         Some(Controller {
             started,
+            kind,
+            named,
             straps,
             command,
             security_lock,
@@ -72,20 +102,19 @@ impl Controller {
             capabilities_written,
             lock_time,
             wait_time,
+            second,
             phase,
             bays,
-            ..Controller::new()
         })
     }
 }
 
 /// Whether the bytes are the image of a state, fit or not.
 pub fn is_image(bytes: &[u8]) -> bool {
-    let flags = 1..32;
     bytes.len() == STATE_BYTES
         && bytes[0] == VERSION
-        && bytes[flags].iter().all(|&flag| flag <= 1)
-        && command([bytes[51], bytes[52], bytes[53]]).is_some()
+        && bytes[FLAGS].iter().all(|&flag| flag <= 1)
+        && matches!(bytes[PROGRESS], [number, first, second] if command([number, first, second]).is_some())
 }
 
 /// The command's number and its bytes.
@@ -98,11 +127,12 @@ fn progress(command: Command) -> [u8; 3] {
         Command::Data { register, value } => [4, register, value],
         Command::Restarted(register) => [5, register, 0],
         Command::Driving(value) => [6, value, 0],
-        Command::Writing(_) | Command::Reading { .. } => panic!("{}", NO_PLACE),
+        Command::Writing(register) => [7, register, 0],
+        Command::Reading { register, value } => [8, register, value],
     }
 }
 
-/// The command that has this number and these bytes.
+/// The command that has this number and these bytes, whichever kind it is of.
 fn command(progress: [u8; 3]) -> Option<Command> {
     Some(match progress {
         [0, 0, 0] => Command::Idle,
@@ -112,6 +142,8 @@ fn command(progress: [u8; 3]) -> Option<Command> {
         [4, register, value] => Command::Data { register, value },
         [5, register, 0] => Command::Restarted(register),
         [6, value, 0] => Command::Driving(value),
+        [7, register, 0] => Command::Writing(register),
+        [8, register, value] => Command::Reading { register, value },
         _ => return None,
     })
 }
@@ -145,8 +177,9 @@ impl Writer {
 
     fn bay_numbers(&mut self, bay: &Bay) {
         self.numbers(&bay.counts);
-        let byte = |ticks: u16| u8::try_from(ticks).expect(NO_PLACE);
-        self.numbers(&[bay.state as u8, bay.request, byte(bay.pulse), byte(bay.wait)]);
+        self.numbers(&[bay.state as u8, bay.request]);
+        self.numbers(&bay.pulse.to_be_bytes());
+        self.numbers(&bay.wait.to_be_bytes());
     }
 }
 
@@ -167,8 +200,25 @@ impl Reader<'_> {
         self.take() == 1
     }
 
+    fn kind(&mut self) -> Kind {
+        if self.flag() {
+            Kind::Second
+        } else {
+            Kind::First
+        }
+    }
+
+    fn written(&mut self, bytes: &mut [Once]) {
+        bytes.iter_mut().for_each(|byte| byte.written = self.flag());
+    }
+
     fn number(&mut self, most: u8) -> Option<u8> {
         Some(self.take()).filter(|&number| number <= most)
+    }
+
+    /// Two bytes, the high one first.
+    fn ticks(&mut self, most: u16) -> Option<u16> {
+        Some(u16::from_be_bytes([self.take(), self.take()])).filter(|&ticks| ticks <= most)
     }
 
     fn levels(&mut self) -> u8 {
@@ -195,14 +245,14 @@ impl Reader<'_> {
         bay
     }
 
-    fn bay_numbers(&mut self, bay: &mut Bay) -> Option<()> {
+    fn bay_numbers(&mut self, bay: &mut Bay, most: MostTicks) -> Option<()> {
         for (count, input) in bay.counts.iter_mut().zip(DEBOUNCED) {
             *count = self.number(input.ticks - 1)?;
         }
         bay.state = State::of_number(self.take())?;
         bay.request = self.number(MOST_REQUEST)?;
-        bay.pulse = self.number(MOST_PULSE)?.into();
-        bay.wait = self.take().into();
+        bay.pulse = self.ticks(most.pulse)?;
+        bay.wait = self.ticks(most.wait)?;
         Some(())
     }
 }

@@ -369,34 +369,38 @@ fn progress_of_the_own_kind_goes_on() {
     }
 }
 
+/// The second kind's longest pulse and wait, every byte and flag that only it has, and its places in a command.
 #[test]
-fn an_image_has_no_place_for_long_waits_and_other_progress() {
-    use std::panic::catch_unwind;
-    let refuses = |dock: Controller| catch_unwind(|| dock.image()).is_err();
-    let first = || started(Kind::First);
-    assert!(!refuses(first()));
-    places_of(Kind::First).into_iter().for_each(|command| assert!(!refuses(Controller { command, ..first() })));
-    places_of(Kind::Second).into_iter().for_each(|command| assert!(refuses(Controller { command, ..first() })));
-    for bay in 0..2 {
-        let mut dock = first();
-        dock.bays[bay].wait = 256;
-        assert!(refuses(dock));
-        let mut dock = first();
-        dock.bays[bay].pulse = 256;
-        assert!(refuses(dock));
+fn every_fit_state_is_its_image() {
+    let mut full = started(Kind::Second);
+    full.second.subsystem = [1, 2, 3, 4].map(|value| Once { value, written: value % 2 == 0 });
+    full.second.form_factors = [Once { value: 7, written: false }, Once { value: 0, written: true }];
+    full.second.features = Once { value: 0xFF, written: true };
+    full.bays = [(1200, 0), (257, 560)].map(|(pulse, wait)| Bay { pulse, ..bay(State::Empty, true, wait) });
+    let kinds = [Kind::First, Kind::Second];
+    for (kind, named) in kinds.into_iter().flat_map(|kind| kinds.map(|named| (kind, named))) {
+        let short = [(200, 0), (0, 255)].map(|(pulse, wait)| Bay { pulse, ..bay(State::Empty, true, wait) });
+        let bays = if kind == Kind::First { short } else { full.bays.clone() };
+        for command in places_of(Kind::First).into_iter().chain(places_of(Kind::Second)) {
+            let dock = Controller { kind, named, command, bays: bays.clone(), ..full.clone() };
+            assert_eq!(Controller::from_image(&dock.image()), Some(dock));
+        }
     }
-    for change in [
-        |dock: &mut Controller| dock.kind = Kind::Second,
-        |dock: &mut Controller| dock.named = Kind::Second,
-        |dock: &mut Controller| dock.second.subsystem[3].value = 1,
-        |dock: &mut Controller| dock.second.subsystem[0].written = true,
-        |dock: &mut Controller| dock.second.features.value = 1,
-        |dock: &mut Controller| dock.second.features.written = true,
-        |dock: &mut Controller| dock.second.form_factors[1].value = 1,
-        |dock: &mut Controller| dock.second.form_factors[0].written = true,
-    ] {
-        let mut dock = first();
-        change(&mut dock);
-        assert!(refuses(dock));
+}
+
+#[test]
+fn ticks_are_fit_by_the_kind_in_force() {
+    let fits = |kind, pulse, wait| {
+        let bays = [Bay::empty(), Bay { pulse, wait, ..Bay::empty() }];
+        let [bay_0, bay_1] = bays.clone();
+        [bays, [bay_1, bay_0]]
+            .map(|bays| Controller::from_image(&Controller { bays, ..started(kind) }.image()).is_some())
+    };
+    for (kind, pulse, wait) in [(Kind::First, 200, 255), (Kind::Second, 1200, 560)] {
+        assert_eq!(fits(kind, pulse, wait), BOTH.map(|_| true));
+        assert_eq!(fits(kind, pulse + 1, 0), BOTH.map(|_| false));
+        assert_eq!(fits(kind, 0, wait + 1), BOTH.map(|_| false));
+        assert_eq!(fits(kind, u16::MAX, 0), BOTH.map(|_| false));
+        assert_eq!(fits(kind, 0, u16::MAX), BOTH.map(|_| false));
     }
 }

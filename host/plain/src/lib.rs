@@ -1,4 +1,5 @@
-//! Safe calls into the C controller of `plain.c`, which has the shape of the library's calls.
+//! Safe calls into the C controller of `plain.c`, which has the shape of the library's calls and is of the first kind
+//! alone.
 
 extern "C" {
     fn plain_replay(words: *const u16, words_len: usize, records: *mut u8, records_len: usize) -> u32;

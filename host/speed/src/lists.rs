@@ -34,26 +34,50 @@ pub fn commands(length: usize) -> Vec<u16> {
     repeated(&part, length)
 }
 
+/// The same of the second kind, at its addresses.
+pub fn second_commands(length: usize) -> Vec<u16> {
+    let part = [
+        &write(OWN, 0x10, 0xAC)[..],
+        &read(OWN, 0x14),
+        &write(OWN, 0x14, 0x04),
+        &read(OWN, 0x10),
+        &write(OWN, 0x18, 0x0C),
+        &read(OWN, 0x20),
+        &write(OWN, 0x08, 0x34),
+        &read(OWN, 0x0C),
+    ]
+    .concat();
+    repeated(&part, length)
+}
+
 /// The life of a device: it comes, is enabled, works for a second, the button goes down, it is let go and taken out.
 pub fn mix(length: usize) -> Vec<u16> {
+    life(0x10, 0x14, length)
+}
+
+pub fn second_mix(length: usize) -> Vec<u16> {
+    life(0x14, 0x10, length)
+}
+
+fn life(bstr: u8, bcer: u8, length: usize) -> Vec<u16> {
     let settle = [TICK; 10];
     let part = [
         &[DEVICE][..],
         &settle,
-        &read(OWN, 0x10),
-        &write(OWN, 0x10, 0x04),
-        &write(OWN, 0x14, 0xAD),
+        &read(OWN, bstr),
+        &write(OWN, bstr, 0x04),
+        &write(OWN, bcer, 0xAD),
         &[TICK; 100],
         &[DEVICE_AND_BUTTON],
         &settle,
-        &read(OWN, 0x10),
-        &write(OWN, 0x10, 0x08),
+        &read(OWN, bstr),
+        &write(OWN, bstr, 0x08),
         &[DEVICE],
         &settle,
-        &write(OWN, 0x14, 0x4C),
+        &write(OWN, bcer, 0x4C),
         &[NOTHING],
         &settle,
-        &read(OWN, 0x10),
+        &read(OWN, bstr),
     ]
     .concat();
     repeated(&part, length)

@@ -9,7 +9,7 @@
 mod lists;
 mod sides;
 
-use sides::{Side, BATCH, MODEL, MODEL_STEPS, PLAIN, REPLAY, SIDES, STEPS};
+use sides::{Side, BATCH, MODEL, MODEL_STEPS, PLAIN, REPLAY, SECOND, SIDES, STEPS};
 use std::process::ExitCode;
 use std::time::Instant;
 
@@ -40,16 +40,16 @@ fn median(times: &mut [f64]) -> f64 {
 }
 
 /// The median of each side. They take turns, so that a slow moment of the machine hits all.
-fn medians(words: &[u16], repeats: usize) -> [f64; SIDES.len()] {
-    let mut buffers = SIDES.map(|_| vec![0; model::RECORD_BYTES * words.len()]);
-    let mut times = SIDES.map(|_| Vec::with_capacity(repeats));
+fn medians<const N: usize>(sides: [Side; N], words: &[u16], repeats: usize) -> [f64; N] {
+    let mut buffers = sides.map(|_| vec![0; model::RECORD_BYTES * words.len()]);
+    let mut times = sides.map(|_| Vec::with_capacity(repeats));
     for _ in 0..repeats {
-        for (place, side) in SIDES.into_iter().enumerate() {
+        for (place, side) in sides.into_iter().enumerate() {
             times[place].push(time(side, words, &mut buffers[place]));
         }
     }
     for buffer in &buffers {
-        assert_eq!(buffer, &buffers[MODEL], "all must agree on what they are timed for");
+        assert_eq!(buffer, &buffers[0], "all must agree on what they are timed for");
     }
     times.map(|mut of_side| median(&mut of_side))
 }
@@ -64,7 +64,7 @@ fn describe_machine(repeats: usize) {
     match std::env::var(EMULATOR) {
         Ok(emulator) => {
             println!("architecture: {}, under the emulator {}", architecture, emulator);
-            println!("Times under an emulator say nothing about real hardware. On x86-64 itself was seen, before request 3:");
+            println!("Times under an emulator say nothing about real hardware. On x86-64 itself was seen:");
             seen_on_x86_64().for_each(|line| println!("    {}", line));
         }
         Err(_) => println!("architecture: {}, no emulator", architecture),
@@ -79,7 +79,7 @@ fn compare_speeds(repeats: usize) {
         ("bus events (whole writes and reads)", lists::commands(most)),
         ("a realistic mix", lists::mix(most)),
     ]
-    .map(|(name, words)| (name, medians(&words, repeats)));
+    .map(|(name, words)| (name, medians(SIDES, &words, repeats)));
     compare_batches(&rows);
     compare_steps(&rows);
 }
@@ -117,6 +117,25 @@ fn compare_steps(rows: &[Row]) {
     }
 }
 
+/// The second kind, beside the model, which knows it too; the C controller doesn't.
+fn compare_second_kind(repeats: usize) {
+    let most = SIZES[SIZES.len() - 1];
+    println!();
+    println!(
+        "{:<36} {:>9} {:>9} {:>12} {:>9} {:>9} {:>12}",
+        "the second kind, ns per event", "batch", "model", "batch/model", "step", "model", "step/model"
+    );
+    for (name, words) in [
+        ("ticks", lists::ticks(most)),
+        ("bus events (whole writes and reads)", lists::second_commands(most)),
+        ("a realistic mix", lists::second_mix(most)),
+    ] {
+        let [batch, model, step, model_step] = medians(SECOND, &words, repeats);
+        print!("{:<36} {:>9.2} {:>9.2} {:>12.2} ", name, batch, model, batch / model);
+        println!("{:>9.2} {:>9.2} {:>12.2}", step, model_step, step / model_step);
+    }
+}
+
 /// A batch is linear in its words if the time for each word stays the same.
 fn check_linearity(repeats: usize) {
     println!();
@@ -124,7 +143,7 @@ fn check_linearity(repeats: usize) {
     let mut first = None;
     let mut last = 0.0;
     for size in SIZES {
-        let times = medians(&lists::mix(size), repeats);
+        let times = medians(SIDES, &lists::mix(size), repeats);
         println!("{:<36} {:>9.2} {:>9.2} {:>9.2}", size, times[REPLAY], times[PLAIN], times[MODEL]);
         first.get_or_insert(times[REPLAY]);
         last = times[REPLAY];
@@ -144,6 +163,7 @@ fn main() -> ExitCode {
     };
     describe_machine(repeats);
     compare_speeds(repeats);
+    compare_second_kind(repeats);
     check_linearity(repeats);
     ExitCode::SUCCESS
 }

@@ -1,7 +1,7 @@
 //! One state, held as bytes by the library and as a controller by the model, and every call on it compared: the answer,
 //! every byte of the state, every byte of the records, and bytes before and after both.
 
-use crate::{pattern, Room};
+use crate::{pattern, Call, Room};
 use dock::ffi;
 use model::{numbers, Answer, Controller, Refusal, MOST_WORDS, STATE_BYTES};
 
@@ -108,6 +108,23 @@ impl Held {
         let library = ffi::outputs(lent(&mut self.bytes));
         let model = self.model.as_ref().ok_or(Refusal::UnfitState).map(Controller::outputs);
         self.agree(library, answer(model), || "dock_outputs".to_string())
+    }
+
+    pub fn name_kind(&mut self, number: u8) -> Result<(), Mismatch> {
+        let library = ffi::name_kind(lent(&mut self.bytes), number);
+        let model = match &mut self.model {
+            Some(dock) => numbers::name_kind(dock, number),
+            None => answer(Err(Refusal::UnfitState)),
+        };
+        self.agree(library, model, || format!("dock_name_kind, number {}", number))
+    }
+
+    /// A word by a step, or a name.
+    pub fn call(&mut self, call: Call) -> Result<(), Mismatch> {
+        match call {
+            Call::Word(word) => self.step(word),
+            Call::Name(number) => self.name_kind(number),
+        }
     }
 
     /// The answer, and then every byte of the state with its guards.

@@ -1,10 +1,12 @@
 //! What the tests that hold the proved library against the model share.
 
 mod bytes;
+mod call;
 pub mod held;
 pub mod lists;
 mod random;
 
 pub use bytes::{hex, pattern, Room};
+pub use call::Call;
 pub use held::{Held, Mismatch, TOO_MANY};
 pub use random::Random;
