@@ -9,7 +9,8 @@ use lib.Dec.{eqb, ltb}
 use borrow.Author.Tests.{lt-ltb, le-leb, ltb-true, leb-true, ltb-false}
 use Rattle.bits.specs.Straps.{MOST-STRAPS}
 use Rattle.bay.proofs.Taut.{pick}
-use Rattle.bay.proofs.Fit.{empty-fit, reset-fit, sampled-fit, ticked-fit, bstr-written-fit, controlled-fit, unlocked-fit}
+use Rattle.bay.specs.declared.Bay.{Bay}
+use Rattle.bay.proofs.Fit.{Fits as Parts, fit-parts as bay-parts, empty-fit, reset-fit, sampled-fit, ticked-fit, bstr-written-fit, controlled-fit, unlocked-fit}
 use Rattle.machine.specs.Record.{PHASES, bayAt, bayIn, fits, freshMachine, fitIn, isOpen, mostPulse, mostWait}
 use Rattle.machine.specs.Setting.{hides, pulseTicks, settingOf, firstSetting, secondSetting}
 use Rattle.machine.specs.InForce.{written}
@@ -40,6 +41,14 @@ pub record Fits (m : Machine) : Type 0 where
   pub bay-count : m .shared .«bay_count» ≤ 3
   pub second : secondFits (m .second) ≡ true
   pub bays : (i : ℕ) → fitIn (m .kind) (bayAt m i) ≡ true
+
+-- A bay of each kind likewise: how long its pulses and waits may be.
+pub record BayFits : Type 0 where
+  pub in-first : (b : Bay) → (fitIn First b ≡ true) ↔ Parts 200 255 b
+  pub in-second : (b : Bay) → (fitIn Second b ≡ true) ↔ Parts 1200 560 b
+
+pub bay-fits : BayFits
+bay-fits = record { in-first = bay-parts 200 255; in-second = bay-parts 1200 560 }
 
 -- Both bays are fit.
 both : (m : Machine) → fitIn (m .kind) (bayAt m 0) ≡ true → fitIn (m .kind) (bayAt m 1) ≡ true → (i : ℕ) → fitIn (m .kind) (bayAt m i) ≡ true

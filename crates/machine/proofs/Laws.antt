@@ -29,17 +29,18 @@ use Rattle.machine.specs.SecondKind.{formFactorAt, formFactorWrite, seco
 use Rattle.machine.proofs.Addresses.{in-first, in-second}
 use Rattle.kind.specs.Kind.{isSecond}
 
--- ---- a fresh machine: fit, not started, outputs 000, every register 0
+-- ---- a fresh machine: fit, not started, of the first kind and named so, outputs 000, every register 0
 
 pub record Fresh (m : Machine) : Type 0 where
   pub fit : fits m ≡ true
   pub not-started : m .started ≡ false
+  pub kinds : (m .kind ≡ First) × (m .named ≡ First)
   pub outputs-0 : outputs m ≡ 0
   pub registers-0 : (a : ℕ) → reading m a ≡ 0
 
 pub fresh-is : Fresh freshMachine
 unfolding freshMachine outputs reading
-fresh-is = record { fit = fresh-fit; not-started = refl; outputs-0 = refl; registers-0 = λ a. refl }
+fresh-is = record { fit = fresh-fit; not-started = refl; kinds = (refl, refl); outputs-0 = refl; registers-0 = λ a. refl }
 
 -- A state not started has outputs 000 and every register reads 0, fresh or not.
 pub silent-before-reset : (m : Machine) → m .started ≡ false → (outputs m ≡ 0) × ((a : ℕ) → reading m a ≡ 0)
