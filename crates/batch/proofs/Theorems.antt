@@ -111,6 +111,11 @@ pub last-record : recordOf (answer.Done (Driven 0x15) 0x041) ≡ 0x06 ∷ 0x2A �
 unfolding recordOf recordNumber
 last-record = refl
 
+-- The record of document 03's trace, of the answer 0, 3, 77h, 000h.
+pub second-kinds-record : recordOf (answer.Done (Driven 0x77) 0x000) ≡ 0x06 ∷ 0xEE ∷ 0x00 ∷ 0x00 ∷ []
+unfolding recordOf recordNumber
+second-kinds-record = refl
+
 -- ---- the contracts determine their answers
 
 pub record-determined : (a : Answer) (r s : List ℕ) → record-reads.Post tt (a, tt) r (a, tt) → record-reads.Post tt (a, tt) s (a, tt) → r ≡ s

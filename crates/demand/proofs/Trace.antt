@@ -16,14 +16,14 @@ use Rattle.demand.specs.Acts.{actsAt, actsOf, decided, hears, lineAfter,
 use Rattle.bay.specs.Registers.{asks, bstrOf, controlOf, controlledBay, pulseWritten, requestWritten, stateWritten, finds}
 use Rattle.machine.specs.Record.{bayIn, freshMachine, openBy, placed}
 use Rattle.bay.specs.Outputs.{bayOutputs, green, interrupts, lockPin, yellow}
-use Rattle.machine.specs.Registers.{bcerWrite, bstrAt}
+use Rattle.machine.specs.Registers.{bcerWrite, bstrAt, countWritten, dbccrOf, dbccrStored, dbccrWrite}
 use Rattle.demand.specs.Described.{completes, decides, goesOn}
 use Rattle.bay.specs.Record.{contact, present, resetBay}
-use Rattle.machine.specs.Acts.{countAfterReset, does, doesAll, letrAfterReset, lockAfterReset, resetAs}
+use Rattle.machine.specs.Acts.{countAfterReset, does, doesAll, letrAfterReset, lockAfterReset, resetAs, nameTo}
 use mathlib.Core.Bool.{false}
 use Rattle.demand.specs.Commands.{firstCompletes, firstDecides, firstGoesOn}
 use Rattle.machine.specs.FirstKind.{firstRegister, firstRegisters, firstWrites, firstWritten}
-use Rattle.machine.specs.Setting.{firstSetting, hides, isLit, secured, settingOf, pulseTicks}
+use Rattle.machine.specs.Setting.{firstSetting, hides, isLit, secured, settingOf, pulseTicks, secondSetting}
 use Rattle.bay.specs.Moves.{inUse}
 use Rattle.demand.specs.Plain.{lastRead, machineAfter, plainAnswer, readBy, replyTo, replyBy}
 use Rattle.bits.specs.Straps.{lockDef, lockMode}
@@ -33,6 +33,9 @@ use Rattle.machine.specs.InForce.{reading, written, register}
 use Rattle.demand.specs.Transfers.{secondCompletes, secondDecides, secondGoesOn}
 use Rattle.event.specs.Words.{unpacked}
 use Rattle.dock.specs.Run.{naming, word}
+use Rattle.second.specs.Once.{subsystemWritten}
+use Rattle.second.specs.Sfr.{pulsed, waitTicks, pulseTicks as sfrPulse}
+use Rattle.machine.specs.SecondKind.{secondRegister, secondRegisters, secondWrites, secondWritten, subsystemAt, subsystemWrite}
 
 -- All words but the last.
 abbrev words : List ℕ
@@ -46,14 +49,16 @@ pub trace-as-printed : AsPrinted
 unfolding unpacked accepted takes silent onBus hears decided meets actsAt lineAfter actsOf goesOn completes decides firstGoesOn firstCompletes firstDecides ownWrite ownRead machineAfter lastRead readBy replyBy replyTo plainAnswer does doesAll freshMachine freshSecond resetSecond lockAfterReset letrAfterReset countAfterReset resetAs lockDef lockMode resetBay contact present inUse bstrOf controlOf asks requestWritten finds stateWritten pulseWritten controlledBay lockPin green yellow bayOutputs interrupts bayIn placed openBy hides secured isLit nibble wants outputs bstrAt firstRegisters firstRegister register reading pulseTicks firstSetting settingOf bcerWrite firstWrites firstWritten written
 trace-as-printed = record { its-acts = refl; its-last-answer = refl }
 
--- The second: 2 is named, and then the words.
+-- The second: 2 is named, and then these words. They are those up to the second TAKE, it, and those after it.
 abbrev secondWords : List ℕ
-secondWords =
-    0xC0FF ∷ 0x0000 ∷ 0x4090 ∷ 0x400B ∷ 0x4077 ∷ 0x4012 ∷ 0x4055 ∷ 0x2000 ∷ 0x0000 ∷ 0x4090 ∷ 0x400A ∷ 0x0000 ∷ 0x4091 ∷ 0x6001 ∷ 0x6001 ∷ 0x6001
-    ∷ 0x6000 ∷ 0x6000 ∷ []
+secondWords = 0xC0FF ∷ 0x0000 ∷ 0x4090 ∷ 0x400B ∷ 0x4077 ∷ 0x4012 ∷ 0x4055 ∷ 0x2000 ∷ 0x0000 ∷ 0x4090 ∷ 0x400A ∷ 0x0000 ∷ 0x4091 ∷ 0x6001 ∷ []
 
-pub second-trace-acts :
-    actsOf silent (accepted false (naming 2 ∷ map word secondWords))
-    ≡ Name Second ∷ Reset 0 0xFF false ∷ Write 0x0B 0x77 ∷ Write 0x0C 0x12 ∷ Write 0x0D 0x55 ∷ Read 0x0A ∷ Read 0x0B ∷ Read 0x0C ∷ Read 0x0D ∷ []
-unfolding unpacked accepted takes numbered silent onBus hears decided meets actsAt lineAfter actsOf goesOn completes decides firstGoesOn firstCompletes firstDecides secondGoesOn secondCompletes secondDecides ownWrite ownRead
-second-trace-acts = refl
+pub record SecondAsPrinted : Type 0 where
+  pub its-acts :
+      actsOf silent (accepted false (naming 2 ∷ map word (secondWords ++ (0x6001 ∷ 0x6001 ∷ 0x6000 ∷ 0x6000 ∷ []))))
+      ≡ Name Second ∷ Reset 0 0xFF false ∷ Write 0x0B 0x77 ∷ Write 0x0C 0x12 ∷ Write 0x0D 0x55 ∷ Read 0x0A ∷ Read 0x0B ∷ Read 0x0C ∷ Read 0x0D ∷ []
+  pub its-second-take : plainAnswer (naming 2 ∷ map word secondWords) 0x6001 ≡ Done (Driven 0x77) 0x000
+
+pub second-trace-as-printed : SecondAsPrinted
+unfolding unpacked accepted takes numbered silent onBus hears decided meets actsAt lineAfter actsOf goesOn completes decides firstGoesOn firstCompletes firstDecides secondGoesOn secondCompletes secondDecides ownWrite ownRead machineAfter lastRead readBy replyBy replyTo plainAnswer does doesAll nameTo freshMachine freshSecond resetSecond lockAfterReset letrAfterReset countAfterReset resetAs resetBay contact present inUse bayOutputs lockPin green yellow interrupts bayIn openBy hides secured isLit nibble wants outputs secondRegisters secondRegister register reading subsystemAt subsystemWritten subsystemWrite dbccrWrite dbccrStored countWritten dbccrOf secondSetting settingOf secondWrites secondWritten written pulsed waitTicks sfrPulse
+second-trace-as-printed = record { its-acts = refl; its-second-take = refl }
