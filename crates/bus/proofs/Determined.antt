@@ -4,6 +4,7 @@ use mathlib.Core.Path.{_≡_, _∙_, sym}
 use Rattle.kind.specs.declared.Kind.{Kind}
 use Rattle.bus.specs.declared.Progress.{Progress}
 use Rattle.bus.specs.declared.Heard.{Heard}
+use Rattle.bus.specs.declared.Holds.{Holds}
 use Rattle.bus.specs.declared.Reply.{Reply}
 use Rattle.bus.proofs.own_write.Reads as own-write-reads
 use Rattle.bus.proofs.own_read.Reads as own-read-reads
@@ -12,6 +13,7 @@ use Rattle.bus.proofs.Progress.holding.Reads as holding-reads
 use Rattle.bus.proofs.Progress.known.Reads as known-reads
 use Rattle.bus.proofs.Progress.start.Reads as start-reads
 use Rattle.bus.proofs.Progress.byte.Reads as heard-reads
+use Rattle.bus.proofs.Progress.held.Reads as held-reads
 use Rattle.bus.proofs.Reply.number.Reads as number-reads
 use Rattle.bus.proofs.Reply.byte.Reads as byte-reads
 
@@ -45,6 +47,10 @@ pub heard-determined :
     → heard-reads.Post tt (x, (k, (straps, (b, tt)))) r (x, (k, (straps, (b, tt))))
     → heard-reads.Post tt (x, (k, (straps, (b, tt)))) s (x, (k, (straps, (b, tt)))) → r ≡ s
 heard-determined x k straps b r s p q = p ∙ sym q
+
+pub held-determined :
+    (x : Progress) (k : Kind) (r s : Holds) → held-reads.Post tt (x, (k, tt)) r (x, (k, tt)) → held-reads.Post tt (x, (k, tt)) s (x, (k, tt)) → r ≡ s
+held-determined x k r s p q = p ∙ sym q
 
 pub number-determined : (x : Reply) (r s : ℕ) → number-reads.Post tt (x, tt) r (x, tt) → number-reads.Post tt (x, tt) s (x, tt) → r ≡ s
 number-determined x r s p q = p ∙ sym q

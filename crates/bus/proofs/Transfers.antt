@@ -1,5 +1,5 @@
--- What a START and a BYTE make of each progress, in each kind of controller, written out (document 01, "Bus commands"; document 03, "Bus
--- transfers" and "State"), and how the number rises. Assumes nothing.
+-- What a START and a BYTE make of each progress, and the byte that it holds, in each kind of controller, written out (document 01, "Bus
+-- commands"; document 03, "Bus transfers" and "State"; document 02, request 7), and how the number rises. Assumes nothing.
 use Prim.Native.Nat.{ℕ, _+_, _<_}
 use native.Mathlib.Omega.{arith}
 use mathlib.Core.Path.{_≡_, refl, sym, _∙_}
@@ -10,7 +10,8 @@ use Rattle.kind.specs.declared.Kind.the-variants.{First, Second}
 use Rattle.bus.specs.declared.Progress.{Progress}
 use Rattle.bus.specs.declared.Progress.the-variants.{Idle, Opened, Addressed, Register, Data, Again, Reading, Writing, Sending}
 use Rattle.bus.specs.declared.Heard.the-variants.{On, Write, Read, End}
-use Rattle.bus.specs.Progress.{ownWrite, ownRead, startedKnown, heardKnown, holding, nextRegister, knownTo, started, heard}
+use Rattle.bus.specs.declared.Holds.the-variants.{Byte, Nothing}
+use Rattle.bus.specs.Progress.{ownWrite, ownRead, startedKnown, heardKnown, holding, nextRegister, knownTo, started, heard, heldKnown, heldBy}
 
 -- The number rises by one; FFh rises to 00h.
 pub record Rises : Type 0 where
@@ -45,9 +46,10 @@ pub record FirstKind (straps n v : ℕ) : Type 0 where
       (b : ℕ) → b ≢ ownWrite straps → b ≢ ownRead straps
       → map (heard First straps b) (allProgress n v) ≡ End ∷ End ∷ On (Register b) ∷ On (Data n b) ∷ End ∷ End ∷ End ∷ End ∷ End ∷ []
   pub holds : holding First n v ≡ Reading v
+  pub held : map (heldBy First) (allProgress n v) ≡ Nothing ∷ Nothing ∷ Nothing ∷ Nothing ∷ Nothing ∷ Nothing ∷ Byte v ∷ Nothing ∷ Nothing ∷ []
 
 pub first-kind : (straps n v : ℕ) → FirstKind straps n v
-unfolding knownTo started startedKnown heard heardKnown holding
+unfolding knownTo started startedKnown heard heardKnown holding heldBy heldKnown
 first-kind straps n v =
     record {
       known = refl;
@@ -56,6 +58,7 @@ first-kind straps n v =
       own-read-byte = λ b e. rw (ne-eqb b (ownWrite straps) (λ f. two-bytes straps (sym e ∙ f)), eq-eqb _ _ e);
       other-byte = λ b f g. rw (ne-eqb _ _ f, ne-eqb _ _ g);
       holds = refl;
+      held = refl;
     }
 
 -- The second kind: each data byte is a whole write at once, and a read goes on. What only the first has counts as none.
@@ -72,9 +75,10 @@ pub record SecondKind (straps n v : ℕ) : Type 0 where
       (b : ℕ) → b ≢ ownWrite straps → b ≢ ownRead straps
       → map (heard Second straps b) (allProgress n v) ≡ End ∷ End ∷ On (Register b) ∷ Write n b ∷ End ∷ End ∷ End ∷ Write n b ∷ End ∷ []
   pub holds : holding Second n v ≡ Sending n v
+  pub held : map (heldBy Second) (allProgress n v) ≡ Nothing ∷ Nothing ∷ Nothing ∷ Nothing ∷ Nothing ∷ Nothing ∷ Nothing ∷ Nothing ∷ Byte v ∷ []
 
 pub second-kind : (straps n v : ℕ) → SecondKind straps n v
-unfolding knownTo started startedKnown heard heardKnown holding
+unfolding knownTo started startedKnown heard heardKnown holding heldBy heldKnown
 second-kind straps n v =
     record {
       known = refl;
@@ -83,4 +87,5 @@ second-kind straps n v =
       own-read-byte = λ b e. rw (ne-eqb b (ownWrite straps) (λ f. two-bytes straps (sym e ∙ f)), eq-eqb _ _ e);
       other-byte = λ b f g. rw (ne-eqb _ _ f, ne-eqb _ _ g);
       holds = refl;
+      held = refl;
     }

@@ -10,6 +10,8 @@ use Rattle.bus.specs.declared.Progress.{Progress}
 use Rattle.bus.specs.declared.Progress.the-variants.{Idle, Opened, Addressed, Register, Data, Again, Reading, Writing, Sending}
 use Rattle.bus.specs.declared.Heard.{Heard}
 use Rattle.bus.specs.declared.Heard.the-variants.{On, Write, Read, End}
+use Rattle.bus.specs.declared.Holds.{Holds}
+use Rattle.bus.specs.declared.Holds.the-variants.{Byte, Nothing}
 
 -- Bus commands, and Bus transfers: the own address byte is 90h + 2 x SMB_A for writing, one more for reading, in both kinds.
 unfoldable pub ownWrite : ℕ → ℕ
@@ -77,3 +79,18 @@ started kind p = startedKnown (knownTo kind p)
 
 unfoldable pub heard : Kind → ℕ → ℕ → Progress → Heard
 heard kind straps b p = heardKnown kind straps b (knownTo kind p)
+
+-- The byte that an open read holds (document 02, request 7): from the own read byte on, and in the second kind from an ACKed TAKE on.
+unfoldable pub heldKnown : Progress → Holds
+heldKnown Idle = Nothing
+heldKnown Opened = Nothing
+heldKnown Addressed = Nothing
+heldKnown (Register r) = Nothing
+heldKnown (Data r v) = Nothing
+heldKnown (Again r) = Nothing
+heldKnown (Reading v) = Byte v
+heldKnown (Writing n) = Nothing
+heldKnown (Sending n v) = Byte v
+
+unfoldable pub heldBy : Kind → Progress → Holds
+heldBy kind p = heldKnown (knownTo kind p)

@@ -1,7 +1,8 @@
 // A bus command in progress (document 01, "Bus commands"; document 03, "Bus transfers"): what a START or a BYTE makes of
-// it in each kind of controller, and the replies. It knows addresses and bytes, and nothing of what a register holds.
+// it in each kind of controller, the byte that an open read holds, and the replies. It knows addresses and bytes, and
+// nothing of what a register holds.
 ghost use mathlib.Core.Path.{_≡_};
-ghost use Rattle.bus.specs.Progress.{ownWrite, ownRead, nextRegister, holding, knownTo, started, heard};
+ghost use Rattle.bus.specs.Progress.{ownWrite, ownRead, nextRegister, holding, knownTo, started, heard, heldBy};
 ghost use Rattle.bus.specs.Reply.{replyNumber, replyByte};
 use bits::straps;
 use kind::Kind;
@@ -41,6 +42,14 @@ pub enum Heard {
     Read(u8),
     // It is not the next one: the command ends.
     End,
+}
+
+// What an open read holds.
+pub enum Holds {
+    // The byte for the next TAKE.
+    Byte(u8),
+    // No read is open.
+    Nothing,
 }
 
 // What the host sees of an event.
@@ -142,6 +151,18 @@ impl Progress {
                 }
             }
             _ => Heard::End,
+        }
+    }
+
+    // The byte that an open read holds for its next TAKE.
+    pub fn held(self, kind: Kind) -> Holds
+        ensures { λ r. ⌜ r ≡ heldBy kind self ⌝ }
+    {
+        let command = self.known(kind);
+        match command {
+            Progress::Reading(value) => Holds::Byte(value),
+            Progress::Sending { value, .. } => Holds::Byte(value),
+            _ => Holds::Nothing,
         }
     }
 }

@@ -80,7 +80,7 @@ pub reached-fit : (cs : List Call) → fits (afterCalls freshController cs .mach
 unfolding freshController
 reached-fit cs = calls-keep (λ m. fits m ≡ true) fits-kept freshController cs fresh-fit
 
-reached-beside : (cs : List Call) → Beside (afterCalls freshController cs) (accepted false cs)
+pub reached-beside : (cs : List Call) → Beside (afterCalls freshController cs) (accepted false cs)
 unfolding freshController freshMachine
 reached-beside cs = calls-beside cs freshController [] fresh-beside fresh-fit
 

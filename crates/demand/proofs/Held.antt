@@ -1,5 +1,5 @@
 -- Demand 3, of the calls on a state that a program holds. From a begun state, any calls one after the other: the bytes are the image of
--- the controller that took them, and every answer, reading and output is the plain machine's. Assumes nothing.
+-- the controller that took them, and every answer, reading, output and held byte is the plain machine's. Assumes nothing.
 use Prim.Native.Nat.{ℕ, _*_, _<_, _≤_}
 use mathlib.Core.Path.{_≡_, refl, ap, sym, _∙_}
 use mathlib.Core.Bool.{Bool, true, false, cond}
@@ -17,6 +17,7 @@ use Rattle.dock.specs.Step.{stepOf}
 use Rattle.dock.specs.Run.{after, Call, word, naming, afterCalls}
 use Rattle.dock.specs.declared.Controller.{Controller}
 use Rattle.dock.proofs.Run.{calls-append, words-calls}
+use Rattle.dock.proofs.OpenRead.{drivenBy, as-a-take}
 use Rattle.batch.specs.Batch.{outcomeOf, stateBy, bufferAfter}
 use Rattle.batch.specs.Decode.{numberOf}
 use Rattle.batch.specs.Record.{recordOf}
@@ -26,15 +27,16 @@ use Rattle.image.specs.Layout.{BYTES}
 use Rattle.image.specs.Save.{saved}
 use Rattle.image.specs.Shape.{Shaped}
 use Rattle.image.proofs.Shape.{fresh-shaped, calls-shaped}
-use Rattle.link.specs.Answer.{both, batchedAs, namedAs, toldAs}
-use Rattle.link.specs.Held.{begunIn, answerIn, outcomeIn, recordsIn, namingIn, readingIn, outputsIn}
-use Rattle.link.proofs.Saved.{held-answer, held-step, held-outcome, held-batch, held-records, held-naming, held-name, held-reading, held-outputs}
+use Rattle.link.specs.Answer.{both, batchedAs, namedAs, toldAs, heldAs}
+use Rattle.link.specs.Held.{begunIn, answerIn, outcomeIn, recordsIn, namingIn, readingIn, outputsIn, heldIn}
+use Rattle.link.proofs.Saved.{held-answer, held-step, held-outcome, held-batch, held-records, held-naming, held-name, held-reading, held-outputs, held-byte}
 use Rattle.link.proofs.held.dock_begin.Reads as begin-call
 use Rattle.link.proofs.held.dock_step.Reads as step-call
 use Rattle.link.proofs.held.dock_batch.Reads as batch-call
 use Rattle.link.proofs.held.dock_name_kind.Reads as name-call
 use Rattle.link.proofs.held.dock_reading.Reads as reading-call
 use Rattle.link.proofs.held.dock_outputs.Reads as outputs-call
+use Rattle.link.proofs.held.dock_held_byte.Reads as held-byte-call
 use Rattle.demand.specs.Words.{accepted}
 use Rattle.demand.specs.Plain.{machineAfter, plainAnswer}
 use Rattle.demand.specs.Held.{taken}
@@ -117,6 +119,10 @@ pub record Agrees (cs : List Call) (bytes : List ℕ) : Type 0 where
   pub nine-outputs :
       (κs : _) (state : RefT (List ℕ)) (r : ℕ) → now state ≡ bytes → outputs-call.Post κs (state, tt) r (state, tt)
       → r ≡ both 0 (outputs (machineAfter (accepted false cs)))
+  -- The byte that an open read holds is the one that the plain machine drives at a TAKE, ACKed or not; none where it drives none.
+  pub held-bytes :
+      (κs : _) (state : RefT (List ℕ)) (r : ℕ) → now state ≡ bytes → held-byte-call.Post κs (state, tt) r (state, tt)
+      → (r ≡ heldAs (drivenBy (plainAnswer cs 0x6000))) × (r ≡ heldAs (drivenBy (plainAnswer cs 0x6001)))
 
 module _ (cs : List Call) where
   has-room : (words : List ℕ) (room : ℕ) → length words ≤ 16384 → 4 * length words ≤ room → outcomeOf (reached cs) (length words) room ≡ Done (length words)
@@ -159,4 +165,10 @@ held-calls {cs} {bytes} c =
           λ κs state left k r n p. p .0 ∙ ap namedAs (ap (λ b. namingIn b k) (n ∙ i) ∙ held-naming (reached cs) t k ∙ e .names k);
       readings = λ κs state a r n p. p ∙ ap toldAs (ap (λ b. readingIn b a) (n ∙ i) ∙ held-reading (reached cs) t a ∙ e .readings a);
       nine-outputs = λ κs state r n p. p ∙ ap toldAs (ap outputsIn (n ∙ i) ∙ held-outputs (reached cs) t ∙ e .nine-outputs);
+      held-bytes =
+          λ κs state r n p.
+          let told = p ∙ ap heldAs (ap heldIn (n ∙ i) ∙ held-byte (reached cs) t) in (
+            told ∙ ap heldAs (as-a-take (reached cs) .nacked ∙ ap drivenBy (e .answers 0x6000)),
+            told ∙ ap heldAs (as-a-take (reached cs) .acked ∙ ap drivenBy (e .answers 0x6001)),
+          );
     }

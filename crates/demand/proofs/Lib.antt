@@ -7,3 +7,4 @@ pub mod Broken
 pub mod Demand3
 pub mod Held
 pub mod Trace
+pub mod Wires

@@ -3,6 +3,8 @@ pub mod Named
 pub mod Every
 pub mod Laws
 pub mod Decided
+pub mod OpenRead
+pub mod LeftHeld
 pub mod Parts
 pub mod Remreq
 pub mod Refusals

@@ -3,6 +3,7 @@ pub mod Events
 pub mod Answers
 pub mod Step
 pub mod Name
+pub mod Held
 pub mod Refusals
 pub mod Run
 pub mod Examples

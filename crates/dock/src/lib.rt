@@ -1,7 +1,9 @@
 // The controller of a two-bay dock (document 01; document 03): a machine and a bus command in progress, one event word at a
-// time, the call that names its kind, and the two questions that change nothing, one register's reading and the nine outputs.
+// time, the call that names its kind, and the questions that change nothing: one register's reading, the nine outputs and the
+// byte that an open read holds.
 mod answers;
 mod events;
+mod held;
 mod name;
 mod record;
 mod step;
@@ -81,5 +83,14 @@ pub struct Renamed {
 // What a question about a state answers.
 pub enum Told {
     Value(u16),
+    Unfit,
+}
+
+// What the question for the byte that an open read holds answers.
+pub enum HeldByte {
+    Byte(u8),
+    // No read is open.
+    Nothing,
+    // The state isn't fit.
     Unfit,
 }

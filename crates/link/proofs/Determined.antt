@@ -14,6 +14,9 @@ use Rattle.link.proofs.held.dock_batch.Reads as batch-reads
 use Rattle.link.proofs.held.dock_name_kind.Reads as name-reads
 use Rattle.link.proofs.held.dock_reading.Reads as reading-reads
 use Rattle.link.proofs.held.dock_outputs.Reads as outputs-reads
+use Rattle.link.proofs.wires.dock_wire_begin.Reads as wire-begin-reads
+use Rattle.link.proofs.wires.dock_wire_listen.Reads as wire-listen-reads
+use Rattle.link.proofs.held.dock_held_byte.Reads as held-byte-reads
 
 pub version-determined : (r s : ℕ) → version-reads.Post tt tt r tt → version-reads.Post tt tt s tt → r ≡ s
 version-determined r s p q = p ∙ sym q
@@ -65,3 +68,21 @@ reading-determined κs state a r s p q = p ∙ sym q
 pub outputs-determined :
     (κs : _) (state : RefT (List ℕ)) (r s : ℕ) → outputs-reads.Post κs (state, tt) r (state, tt) → outputs-reads.Post κs (state, tt) s (state, tt) → r ≡ s
 outputs-determined κs state r s p q = p ∙ sym q
+
+pub held-byte-determined :
+    (κs : _) (state : RefT (List ℕ)) (r s : ℕ) → held-byte-reads.Post κs (state, tt) r (state, tt) → held-byte-reads.Post κs (state, tt) s (state, tt) → r ≡ s
+held-byte-determined κs state r s p q = p ∙ sym q
+
+pub wire-begin-determined :
+    (κs : _) (held : RefT (List ℕ)) (r s : ℕ) (left left′ : RefT (List ℕ))
+    → wire-begin-reads.Post κs (held, tt) r (left, tt) → wire-begin-reads.Post κs (held, tt) s (left′, tt)
+    → (r ≡ s) × (now left ≡ now left′)
+wire-begin-determined κs held r s left left′ p q = (p .0 ∙ sym (q .0), p .1 ∙ sym (q .1))
+
+pub wire-listen-determined :
+    (κs : _) (held samples words : RefT (List ℕ)) (r s : ℕ) (left left′ written written′ : RefT (List ℕ))
+    → wire-listen-reads.Post κs (held, (samples, (words, tt))) r (left, (samples, (written, tt)))
+    → wire-listen-reads.Post κs (held, (samples, (words, tt))) s (left′, (samples, (written′, tt)))
+    → (r ≡ s) × (now left ≡ now left′) × (now written ≡ now written′)
+wire-listen-determined κs held samples words r s left left′ written written′ p q =
+    (p .0 ∙ sym (q .0), p .1 .0 ∙ sym (q .1 .0), p .1 .1 ∙ sym (q .1 .1))

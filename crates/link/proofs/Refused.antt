@@ -12,10 +12,13 @@ use Rattle.machine.specs.Record.{fits}
 use Rattle.dock.specs.Record.{freshController}
 use Rattle.dock.specs.Step.{stepOf, toldReading, toldOutputs}
 use Rattle.dock.specs.Answers.{refusalOf, toldRefusal}
+use Rattle.dock.specs.Held.{heldRefusal, toldHeld}
 use Rattle.dock.specs.declared.Answer.the-variants as answer
 use Rattle.dock.specs.declared.Told.{Told}
 use Rattle.dock.specs.declared.Told.the-variants as told
+use Rattle.dock.specs.declared.HeldByte.the-variants as held-byte
 use Rattle.dock.proofs.Refusals.{refused-unchanged, exactly, Answers, reading-told, outputs-told}
+use Rattle.dock.proofs.OpenRead.{held-refused}
 use Rattle.batch.specs.Batch.{outcomeOf, bufferAfter}
 use Rattle.batch.specs.Outcome.{outcomeRefusal, outcomeCount}
 use Rattle.batch.specs.declared.Outcome.the-variants as outcome
@@ -26,7 +29,7 @@ use Rattle.image.specs.Shape.{Octets}
 use Rattle.image.proofs.Whole.{image-whole}
 use Rattle.image.proofs.RoundTrip.{saved-loaded}
 use Rattle.link.specs.Answer.{both}
-use Rattle.link.specs.Held.{begun, begunIn, answerIn, steppedIn, outcomeIn, batchedIn, recordsIn, readingIn, outputsIn}
+use Rattle.link.specs.Held.{begun, begunIn, answerIn, steppedIn, outcomeIn, batchedIn, recordsIn, readingIn, outputsIn, heldIn}
 
 -- A state is begun exactly where its length is an image's; else the answer is refusal 1.
 pub begin-exactly : (n : ℕ) → ((begun n ≡ 0) ↔ (n ≡ 74)) × ((begun n ≡ 1 * 65536) ↔ (n ≢ 74))
@@ -91,6 +94,7 @@ module _ (bytes : List ℕ) where
     pub by-batch : (words room : ℕ) → (outcomeRefusal (outcomeIn bytes words room) ≡ 1) ↔ (usable ≡ false)
     pub by-reading : (a : ℕ) → (toldRefusal (readingIn bytes a) ≡ 1) ↔ (usable ≡ false)
     pub by-outputs : (toldRefusal (outputsIn bytes) ≡ 1) ↔ (usable ≡ false)
+    pub by-held-byte : (heldRefusal (heldIn bytes) ≡ 1) ↔ (usable ≡ false)
 
   told-exactly : (t : Told) (v : ℕ) → Answers (stateIn bytes) t v → (toldRefusal t ≡ 1) ↔ (fits (stateIn bytes .machine) ≡ false)
   told-exactly t v a = go (fits (stateIn bytes .machine)) refl
@@ -100,7 +104,7 @@ module _ (bytes : List ℕ) where
       go false e = (λ n. refl, λ f. a .refused-1 e .0)
 
   pub refused-with-1 : One
-  unfolding answerIn outcomeIn readingIn outputsIn
+  unfolding answerIn outcomeIn readingIn outputsIn heldIn
   refused-with-1 =
       record {
         by-step =
@@ -118,4 +122,7 @@ module _ (bytes : List ℕ) where
         by-outputs =
             by-image (λ b. (toldRefusal (cond b (toldOutputs (stateIn bytes)) told.Unfit) ≡ 1) ↔ ((b && fits (stateIn bytes .machine)) ≡ false))
             (λ i. told-exactly _ _ (outputs-told (stateIn bytes))) (λ i. (λ e. refl, λ e. refl));
+        by-held-byte =
+            by-image (λ b. (heldRefusal (cond b (toldHeld (stateIn bytes)) held-byte.Unfit) ≡ 1) ↔ ((b && fits (stateIn bytes .machine)) ≡ false))
+            (λ i. held-refused (stateIn bytes)) (λ i. (λ e. refl, λ e. refl));
       }

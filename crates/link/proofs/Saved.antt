@@ -6,13 +6,14 @@ use lib.ListN.{length}
 use Rattle.dock.specs.Record.{freshController}
 use Rattle.dock.specs.Step.{stepOf, toldReading, toldOutputs}
 use Rattle.dock.specs.Name.{nameOf}
+use Rattle.dock.specs.Held.{toldHeld}
 use Rattle.dock.specs.declared.Controller.{Controller}
 use Rattle.batch.specs.Batch.{outcomeOf, stateBy, bufferAfter}
 use Rattle.image.specs.Save.{saved}
 use Rattle.image.specs.Shape.{Shaped}
 use Rattle.image.proofs.RoundTrip.{saved-image, state-back}
 use Rattle.image.proofs.Shape.{fresh-shaped}
-use Rattle.link.specs.Held.{inImage, answerIn, steppedIn, outcomeIn, batchedIn, recordsIn, namingIn, namedIn, readingIn, outputsIn}
+use Rattle.link.specs.Held.{inImage, answerIn, steppedIn, outcomeIn, batchedIn, recordsIn, namingIn, namedIn, readingIn, outputsIn, heldIn}
 
 module _ (s : Controller) (h : Shaped (s .machine)) where
   of-image : {A : Type 0} (gives : Controller → A) (none : A) → inImage (saved s) gives none ≡ gives s
@@ -53,6 +54,10 @@ module _ (s : Controller) (h : Shaped (s .machine)) where
   pub held-outputs : outputsIn (saved s) ≡ toldOutputs s
   unfolding outputsIn
   held-outputs = of-image toldOutputs _
+
+  pub held-byte : heldIn (saved s) ≡ toldHeld s
+  unfolding heldIn
+  held-byte = of-image toldHeld _
 
 -- From the image of a fresh controller.
 module _ (bytes : List ℕ) (e : bytes ≡ saved freshController) where

@@ -1,9 +1,11 @@
 -- The one layout of an answer of the library: the refusal in bits 23-16, and a value below it. Document 01's answers as such numbers.
 use Prim.Native.Nat.{ℕ, _+_, _*_}
 use Rattle.dock.specs.Answers.{toldRefusal, toldValue}
+use Rattle.dock.specs.Held.{heldRefusal, heldValue}
 use Rattle.dock.specs.Name.{namingRefusal}
 use Rattle.dock.specs.declared.Told.{Told}
 use Rattle.dock.specs.declared.Naming.{Naming}
+use Rattle.dock.specs.declared.HeldByte.{HeldByte}
 use Rattle.batch.specs.Outcome.{outcomeRefusal, outcomeCount}
 use Rattle.batch.specs.declared.Outcome.{Outcome}
 
@@ -17,6 +19,10 @@ batchedAs o = both (outcomeRefusal o) (outcomeCount o)
 -- A question about a state: its refusal and what it asked for.
 abbrev pub toldAs : Told → ℕ
 toldAs t = both (toldRefusal t) (toldValue t)
+
+-- The byte that an open read holds: its refusal, and in the value bit 8 exactly if one is held.
+abbrev pub heldAs : HeldByte → ℕ
+heldAs h = both (heldRefusal h) (heldValue h)
 
 -- Naming a kind: its refusal, and no value.
 abbrev pub namedAs : Naming → ℕ

@@ -7,6 +7,7 @@ use lib.ListN.{length}
 use Rattle.dock.specs.Record.{freshController}
 use Rattle.dock.specs.Step.{stepOf, toldReading, toldOutputs}
 use Rattle.dock.specs.Name.{nameOf}
+use Rattle.dock.specs.Held.{toldHeld}
 use Rattle.dock.specs.declared.Controller.{Controller}
 use Rattle.dock.specs.declared.Answer.{Answer}
 use Rattle.dock.specs.declared.Answer.the-variants as answer
@@ -14,6 +15,8 @@ use Rattle.dock.specs.declared.Naming.{Naming}
 use Rattle.dock.specs.declared.Naming.the-variants as naming
 use Rattle.dock.specs.declared.Told.{Told}
 use Rattle.dock.specs.declared.Told.the-variants as told
+use Rattle.dock.specs.declared.HeldByte.{HeldByte}
+use Rattle.dock.specs.declared.HeldByte.the-variants as held-byte
 use Rattle.batch.specs.Batch.{outcomeOf, stateBy, bufferAfter}
 use Rattle.batch.specs.declared.Outcome.{Outcome}
 use Rattle.batch.specs.declared.Outcome.the-variants as outcome
@@ -63,3 +66,7 @@ readingIn bytes a = inImage bytes (λ s. toldReading s a) told.Unfit
 
 unfoldable pub outputsIn : List ℕ → Told
 outputsIn bytes = inImage bytes toldOutputs told.Unfit
+
+-- The byte that an open read holds (document 02, request 7).
+unfoldable pub heldIn : List ℕ → HeldByte
+heldIn bytes = inImage bytes toldHeld held-byte.Unfit

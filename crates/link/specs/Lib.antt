@@ -2,3 +2,4 @@ pub mod Answer
 pub mod Version
 pub mod Events
 pub mod Held
+pub mod Wires

@@ -4,11 +4,12 @@ ghost use lib.ListN.{length};
 ghost use Rattle.batch.specs.Decode.{numberOf};
 ghost use Rattle.batch.specs.Record.{recordOf};
 ghost use Rattle.image.specs.Layout.{BYTES};
-ghost use Rattle.link.specs.Answer.{batchedAs, namedAs, toldAs};
-ghost use Rattle.link.specs.Held.{begun, begunIn, answerIn, steppedIn, outcomeIn, batchedIn, recordsIn, namingIn, namedIn, readingIn, outputsIn};
+ghost use Rattle.link.specs.Answer.{batchedAs, namedAs, toldAs, heldAs};
+ghost use Rattle.link.specs.Held.{begun, begunIn, answerIn, steppedIn, outcomeIn, batchedIn, recordsIn, namingIn, namedIn, readingIn, outputsIn, heldIn};
 use crate::answer::both;
 use crate::answer::counted;
 use batch::Outcome;
+use dock::HeldByte;
 use dock::Naming;
 use dock::Told;
 use image::Verdict;
@@ -159,4 +160,24 @@ pub extern "C" fn dock_outputs(state: &[u8]) -> u32
         return both(UNFIT, 0);
     };
     answered(loaded.controller.outputs())
+}
+
+// What the question for the byte held answered.
+fn told(held: HeldByte) -> u32
+    ensures { λ r. ⌜ r ≡ heldAs held ⌝ }
+{
+    both(held.refusal(), held.value())
+}
+
+// The byte that an open read holds, with bit 8 of the value set, or that none is: 0.
+#[no_mangle]
+pub extern "C" fn dock_held_byte(state: &[u8]) -> u32
+    ensures { λ r. ⌜ r ≡ heldAs (heldIn (now (state .entry))) ⌝ }
+{
+    let loaded = load(state);
+    let verdict = loaded.verdict;
+    let Verdict::Whole = verdict else {
+        return told(HeldByte::Unfit);
+    };
+    told(loaded.controller.held())
 }

@@ -5,6 +5,7 @@ pub mod events;
 pub mod held;
 pub mod replay;
 pub mod version;
+pub mod wires;
 
 use event::Event;
 

@@ -18,8 +18,10 @@ use Rattle.script.specs.Hands.{only, bayOf, kindOf, pulls, raises, inser
 use Rattle.script.specs.Lines.{given, resetLine, takeLine, writeLine, span, readLine, orderLine, verbLine, plain, argumentOf, textLine, lineOf}
 use Rattle.script.specs.Examples.{Example, examples, Argument, arguments, Values, furthers}
 use Rattle.script.specs.declared.Line.{Line}
+use Rattle.script.specs.declared.Number.{Number}
 use Rattle.script.proofs.arguments.digit.Reads as digit-reads
 use Rattle.script.proofs.arguments.further_value.Reads as further-reads
+use Rattle.script.proofs.arguments.word.Reads as word-reads
 use Rattle.script.proofs.lines.argument.Reads as argument-reads
 use Rattle.script.proofs.lines.meaning.Reads as meaning-reads
 
@@ -110,6 +112,10 @@ digit-determined κs c r s p q = p .0 ∙ sym (q .0)
 pub further-determined :
     (κs : _) (text : RefT (List ℕ)) (n r s : ℕ) → further-reads.Post κs (text, (n, tt)) r (text, (n, tt)) → further-reads.Post κs (text, (n, tt)) s (text, (n, tt)) → r ≡ s
 further-determined κs text n r s p q = p ∙ sym q
+
+pub word-determined :
+    (κs : _) (text : RefT (List ℕ)) (r s : Number) → word-reads.Post κs (text, tt) r (text, tt) → word-reads.Post κs (text, tt) s (text, tt) → r ≡ s
+word-determined κs text r s p q = p ∙ sym q
 
 -- Of a part of the line, what stands in it.
 pub argument-determined :

@@ -52,7 +52,7 @@ pub(crate) fn octet(text: &[u8]) -> Octet
 }
 
 // Four hex digits.
-pub(crate) fn word(text: &[u8]) -> Number
+pub fn word(text: &[u8]) -> Number
     ensures { λ r. ⌜ r ≡ wordOf (now (text .entry)) ⌝ }
 {
     if text.len() != 4 {

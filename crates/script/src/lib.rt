@@ -8,6 +8,7 @@ mod verbs;
 
 pub use arguments::digit;
 pub use arguments::further_value;
+pub use arguments::word;
 use event::Event;
 pub use lines::argument;
 pub use lines::meaning;
@@ -103,9 +104,9 @@ struct Octet {
 }
 
 // A text as a number of 16 bits, 0 where it isn't one.
-struct Number {
-    good: bool,
-    value: u16,
+pub struct Number {
+    pub good: bool,
+    pub value: u16,
 }
 
 // A text as two bytes.

@@ -68,6 +68,3 @@ fed-most t xs =
       length-append (held (t .waiting)) xs,
       held-most (t .waiting),
     )
-
-pub byte-most : (t : Trace) (b : ℕ) → length (linesFed t (b ∷ [])) ≤ 16
-byte-most t b = fed-most t (b ∷ [])

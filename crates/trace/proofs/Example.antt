@@ -19,7 +19,7 @@ use Rattle.dock.specs.Record.{freshController}
 use Rattle.dock.specs.Events.{stopDeed, readAt, byteHeard, byteAt, takeKnown, turnOf, next}
 use Rattle.dock.specs.Step.{takes, stepOf}
 use Rattle.hex.specs.Digit.{digitFor}
-use Rattle.trace.specs.Line.{lineOf}
+use Rattle.lines.specs.Line.{lineOf}
 use Rattle.trace.specs.Text.{header, odd, wordsIn, loneIn, linesOf, oddFor, textOf}
 use Rattle.trace.specs.Example.{exampleInput, exampleText, loneInput, loneText}
 

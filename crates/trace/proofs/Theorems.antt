@@ -3,22 +3,20 @@
 -- then has its line. Assumes nothing.
 use Prim.Native.Nat.{ℕ}
 use mathlib.Core.Path.{_≡_, ap, sym, _∙_}
-use mathlib.Core.List.{List, [], _∷_, _++_, append-assoc, append-nil, flatten}
+use mathlib.Core.List.{List, [], _∷_, _++_, append-assoc, flatten}
 use lib.ListN.{length, take}
-use lib.IntN.{ℤ}
 use denote.Ref.{RefT, now}
 use Rattle.dock.specs.Record.{freshController}
 use Rattle.trace.specs.Text.{header, wordsIn, linesOf, textOf}
-use Rattle.trace.specs.Pieces.{written, linesFed, traceFed, fedOf, begun, endingOf}
+use Rattle.lines.proofs.Telling.{put-out, flatten-one, AsOnePiece, no-piece, piece-more}
+use Rattle.trace.specs.Pieces.{linesFed, traceFed, fedOf, begun, endingOf}
 use Rattle.trace.specs.declared.pieces.Trace.{Trace}
 use Rattle.trace.specs.declared.pieces.Fed.{Fed}
-use Rattle.trace.specs.declared.reads.Came.{Came}
-use Rattle.trace.proofs.Cut.{held-lone, trace-none, lines-none, trace-append, lines-cut}
-use Rattle.trace.proofs.Written.{written-text}
+use Rattle.trace.proofs.Cut.{held-lone}
+use Rattle.trace.proofs.Loop.{telling}
 use Rattle.trace.proofs.pieces.begin.Reads as begin-call
 use Rattle.trace.proofs.pieces.feed.Reads as feed-call
 use Rattle.trace.proofs.pieces.finish.Reads as finish-call
-use Rattle.trace.proofs.reads.answered.Reads as answered-call
 
 -- ---- calls one after the other, each of which answered as its contract says
 
@@ -33,10 +31,6 @@ pub data Called : List (List ℕ) → List (List ℕ) → Trace → Type 0 where
       → Called (pieces ++ (now input ∷ [])) (texts ++ (take (r .length) (now left) ∷ [])) (r .trace)
 
 -- ---- what one call puts out
-
--- What stands at the start of a buffer, where a contract says what was written and how much.
-put-out : (text buffer : List ℕ) {n : ℕ} {left : List ℕ} → n ≡ length text → left ≡ written text buffer → take n left ≡ text
-put-out text buffer e w = rw (e, w) (written-text text buffer)
 
 abbrev fresh : Trace
 fresh = begun .trace
@@ -57,40 +51,17 @@ feed-says κs t input output left r p =
 
 -- ---- what all calls put out
 
--- One list more at the end.
-flatten-one : (ls : List (List ℕ)) (l : List ℕ) → flatten (ls ++ (l ∷ [])) ≡ flatten ls ++ l
-unfolding flatten
-flatten-one [] l = append-nil l
-flatten-one (k ∷ ls) l = ap (λ r. k ++ r) (flatten-one ls l) ∙ sym (append-assoc k (flatten ls) l)
-
--- The trace and the text are those of one piece that is the whole input so far.
-abbrev AsOnePiece : List (List ℕ) → List (List ℕ) → Trace → Type 0
-AsOnePiece pieces texts t = (t ≡ traceFed fresh (flatten pieces)) × (flatten texts ≡ header ++ linesFed fresh (flatten pieces))
-
-one-more :
-    (pieces texts : List (List ℕ)) (t : Trace) → AsOnePiece pieces texts t
-    → (κs : _) (input output left : RefT (List ℕ)) (r : Fed) → feed-call.Post κs (t, (input, (output, tt))) r (t, (input, (left, tt)))
-    → AsOnePiece (pieces ++ (now input ∷ [])) (texts ++ (take (r .length) (now left) ∷ [])) (r .trace)
-one-more pieces texts t before κs input output left r p =
-    let says = feed-says κs t input output left r p in (
-      says .0 ∙ rw (before .0, flatten-one pieces, trace-append fresh (flatten pieces) (now input)),
-      flatten-one texts (take (r .length) (now left))
-          ∙ rw (says .1, before .1, before .0, flatten-one pieces, lines-cut fresh (flatten pieces) (now input), append-assoc),
-    )
-
-as-one-piece : {pieces texts : List (List ℕ)} {t : Trace} → Called pieces texts t → AsOnePiece pieces texts t
-unfolding flatten
-as-one-piece (begin κs output left r p) =
-    let says = begin-says κs output left r p in
-    (says .0 ∙ sym (trace-none fresh), rw (lines-none fresh) (ap (λ l. l ++ []) (says .1)))
-as-one-piece (feed {pieces} {texts} {t} κs input output left r c p) = one-more pieces texts t (as-one-piece c) κs input output left r p
+as-one-piece : {pieces texts : List (List ℕ)} {t : Trace} → Called pieces texts t → AsOnePiece telling fresh header pieces texts t
+as-one-piece (begin κs output left r p) = let says = begin-says κs output left r p in no-piece telling (says .0) (says .1)
+as-one-piece (feed {pieces} {texts} {t} κs input output left r c p) =
+    let says = feed-says κs t input output left r p in piece-more telling (as-one-piece c) (says .0) (says .1)
 
 -- After each piece, the header and a line for each word that is whole by then, in order: nothing is kept back.
 pub told-at-once :
     {pieces texts : List (List ℕ)} {t : Trace} → Called pieces texts t
     → flatten texts ≡ header ++ linesOf freshController (wordsIn (flatten pieces))
 unfolding linesFed begun
-told-at-once c = as-one-piece c .1
+told-at-once c = as-one-piece c .text
 
 -- However the input was cut, all that was put out is the text of the whole input.
 pub cut-anywhere :
@@ -100,7 +71,7 @@ pub cut-anywhere :
 unfolding textOf endingOf traceFed begun
 cut-anywhere {pieces} {texts} {t} c κs output left n p =
     flatten-one texts (take n (now left))
-    ∙ rw (told-at-once c, put-out (endingOf t) (now output) (p .0) (p .1), as-one-piece c .0, held-lone (flatten pieces), append-assoc)
+    ∙ rw (told-at-once c, put-out (endingOf t) (now output) (p .0) (p .1), as-one-piece c .state, held-lone (flatten pieces), append-assoc)
 
 -- ---- the contracts determine what they speak of
 
@@ -119,8 +90,3 @@ pub finish-determined :
     (κs : _) (t : Trace) (output left left′ : RefT (List ℕ)) (n n′ : ℕ) → finish-call.Post κs (t, (output, tt)) n (t, (left, tt))
     → finish-call.Post κs (t, (output, tt)) n′ (t, (left′, tt)) → (n ≡ n′) × (now left ≡ now left′)
 finish-determined κs t output left left′ n n′ p q = (p .0 ∙ sym (q .0), p .1 ∙ sym (q .1))
-
-pub answered-determined :
-    (κs : _) (got : ℤ) (buffer : RefT (List ℕ)) (r r′ : Came) → answered-call.Post κs (got, (buffer, tt)) r (got, (buffer, tt))
-    → answered-call.Post κs (got, (buffer, tt)) r′ (got, (buffer, tt)) → r ≡ r′
-answered-determined κs got buffer r r′ p q = p ∙ sym q

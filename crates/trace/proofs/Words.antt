@@ -9,7 +9,7 @@ use Rattle.dock.specs.Step.{stepOf}
 use Rattle.dock.specs.Run.{after}
 use Rattle.dock.specs.declared.Controller.{Controller}
 use Rattle.dock.specs.declared.Answer.{Answer}
-use Rattle.trace.specs.Line.{lineOf}
+use Rattle.lines.specs.Line.{lineOf}
 use Rattle.trace.specs.Text.{wordsIn, loneIn, linesOf}
 
 pub words-append : (xs ys : List ℕ) → wordsIn (xs ++ ys) ≡ wordsIn xs ++ wordsIn (loneIn xs ++ ys)

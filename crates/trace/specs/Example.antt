@@ -1,7 +1,7 @@
 -- The paper's trace of twelve words (document 01, "Bench examples"): what is read, and what is printed.
 use Prim.Native.Nat.{ℕ}
 use mathlib.Core.List.{List, [], _∷_, _++_}
-use Rattle.trace.specs.Text.{characters}
+use Rattle.lines.specs.Text.{characters}
 
 -- C0BF 0000 4090 4014 4004 2000 0000 4090 4010 0000 4091 6000, high byte first.
 unfoldable pub exampleInput : List ℕ

@@ -1,5 +1,3 @@
-pub mod Line
 pub mod Text
 pub mod Pieces
-pub mod Reads
 pub mod Example

@@ -1,7 +1,7 @@
 -- A trace whose input comes in pieces: the controller after the words so far, and the high byte that waits for its low byte.
 use Prim.Native.Nat.{ℕ}
 use mathlib.Core.List.{List, [], _∷_, _++_}
-use lib.ListN.{length, drop}
+use lib.ListN.{length}
 use Rattle.dock.specs.Record.{freshController}
 use Rattle.dock.specs.Run.{after}
 use Rattle.trace.specs.Text.{header, wordsIn, loneIn, linesOf, oddFor}
@@ -9,10 +9,6 @@ use Rattle.trace.specs.declared.pieces.Waiting.{Waiting}
 use Rattle.trace.specs.declared.pieces.Waiting.the-variants.{Nothing, High}
 use Rattle.trace.specs.declared.pieces.Trace.{Trace}
 use Rattle.trace.specs.declared.pieces.Fed.{Fed}
-
--- A buffer with a text at its start; the bytes past it are unchanged.
-unfoldable pub written : List ℕ → List ℕ → List ℕ
-written text buffer = text ++ drop (length text) buffer
 
 -- The byte that waits, and a lone byte as one that waits.
 abbrev pub held : Waiting → List ℕ

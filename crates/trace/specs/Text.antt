@@ -1,21 +1,12 @@
 -- The text of a trace (document 01, "Bench examples"): the program starts from a fresh state and reads words, high byte first; it
 -- prints the header, then a line for each word; a lone last byte prints `odd`. Bytes and characters are their numbers.
-use Prim.Native.Nat.{ℕ, zero, suc, _+_, _*_}
-use Prim.Native.Char.{code}
-use Prim.Native.String.{String, len, charAt}
+use Prim.Native.Nat.{ℕ, _+_, _*_}
 use mathlib.Core.List.{List, [], _∷_, _++_}
 use Rattle.dock.specs.Record.{freshController}
 use Rattle.dock.specs.Step.{stepOf}
 use Rattle.dock.specs.declared.Controller.{Controller}
-use Rattle.trace.specs.Line.{lineOf}
-
--- A text's characters: n of them, from a place on.
-abbrev charactersFrom : String → ℕ → ℕ → List ℕ
-charactersFrom t at zero = []
-charactersFrom t at (suc n) = code (charAt t at) ∷ charactersFrom t (suc at) n
-
-abbrev pub characters : String → List ℕ
-characters t = charactersFrom t 0 (len t)
+use Rattle.lines.specs.Line.{lineOf}
+use Rattle.lines.specs.Text.{characters}
 
 unfoldable pub header : List ℕ
 header = characters "word ref rep byte out\n"

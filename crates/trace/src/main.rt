@@ -1,10 +1,8 @@
 // The trace program (document 01): reads words from standard input, high byte first, steps them from a fresh
 // controller and prints a line for each. A piece is what one read gives, and its lines are written at once. What is
-// put into the buffers is proved (`pieces`), and what a read's answer means (`reads`); that the calls read and write
+// put into the buffers is proved (`pieces`), and what a read's answer means (`lines::reads`); that the calls read and write
 // these buffers is assumed.
-mod line;
 mod pieces;
-mod reads;
 
 ghost use Prim.Native.Nat.{_≤_};
 ghost use mathlib.Core.Path.{_≡_};
@@ -14,12 +12,12 @@ ghost use Rattle.trace.specs.Pieces.{begun, traceFed};
 use libc::STDERR_FILENO;
 use libc::STDIN_FILENO;
 use libc::STDOUT_FILENO;
+use lines::reads::Came;
+use lines::reads::answered;
 use pieces::Trace;
 use pieces::begin;
 use pieces::feed;
 use pieces::finish;
-use reads::Came;
-use reads::answered;
 
 // The bytes of input and of output in one piece: a line for every two bytes, and one line more.
 const INPUT: usize = 8192;

@@ -4,11 +4,12 @@ ghost use Prim.Native.Nat.{_+_, _*_, _≤_};
 ghost use mathlib.Core.Path.{_≡_};
 ghost use mathlib.Core.List.{[], _∷_};
 ghost use lib.ListN.{length};
+ghost use Rattle.lines.specs.Text.{written};
 ghost use Rattle.trace.specs.Text.{header};
-ghost use Rattle.trace.specs.Pieces.{written, linesFed, fedOf, begun, endingOf};
-use crate::line::LINE;
-use crate::line::line;
+ghost use Rattle.trace.specs.Pieces.{linesFed, fedOf, begun, endingOf};
 use dock::Controller;
+use lines::line::LINE;
+use lines::line::line;
 
 // The byte of a word that has come without the other.
 pub enum Waiting {

@@ -2,7 +2,7 @@
 use mathlib.Core.Path.{sym}
 use lib.Seq.{length-take-le}
 use borrow.Author.Needs.{needs}
-use Rattle.trace.proofs.Written.{written-holds}
+use Rattle.lines.proofs.Written.{written-holds}
 use Rattle.trace.proofs.ended.Statement.{statement}
 use Rattle.trace.proofs.ended.Tie as tie
 

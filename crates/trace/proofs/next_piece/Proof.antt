@@ -4,7 +4,7 @@ use native.Mathlib.Omega.{arith}
 use lib.ListN.{length-take}
 use lib.Seq.{length-take-le}
 use borrow.Author.Needs.{needs}
-use Rattle.trace.proofs.Sign.{within}
+use Rattle.lines.proofs.Sign.{within}
 use Rattle.trace.proofs.next_piece.Statement.{statement}
 use Rattle.trace.proofs.next_piece.Tie as tie
 

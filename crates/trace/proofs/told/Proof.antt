@@ -4,7 +4,7 @@ use lib.Seq.{length-take-le}
 use borrow.Author.Needs.{needs}
 use Rattle.trace.specs.Pieces.{fedOf}
 use Rattle.trace.specs.declared.pieces.Fed.{Fed}
-use Rattle.trace.proofs.Written.{written-holds}
+use Rattle.lines.proofs.Written.{written-holds}
 use Rattle.trace.proofs.told.Statement.{statement}
 use Rattle.trace.proofs.told.Tie as tie
 

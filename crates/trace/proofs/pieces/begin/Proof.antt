@@ -1,7 +1,8 @@
 -- `trace::pieces::begin` meets its contract: the header's characters are those of the text that is copied. Assumes nothing.
 use borrow.Author.Needs.{needs}
 use Rattle.trace.specs.Text.{header}
-use Rattle.trace.specs.Pieces.{written, begun}
+use Rattle.lines.specs.Text.{written}
+use Rattle.trace.specs.Pieces.{begun}
 use Rattle.trace.proofs.pieces.begin.Statement.{statement}
 use Rattle.trace.proofs.pieces.begin.Tie as tie
 

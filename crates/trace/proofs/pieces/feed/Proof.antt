@@ -6,41 +6,41 @@ use native.Mathlib.Omega.{arith}
 use denote.Ref.{now}
 use lib.ListN.{length, getD, length-take, length-drop}
 use borrow.Author.Needs.{needs}
+use Rattle.lines.proofs.Telling.{Heard, none-heard, byte-most, one-more, length-kept, one-fits, all-heard}
 use Rattle.trace.specs.Pieces.{fedOf}
 use Rattle.trace.specs.declared.pieces.Fed.{Fed}
-use Rattle.trace.proofs.Cut.{byte-most}
-use Rattle.trace.proofs.Loop.{Heard, none-heard, one-more, length-kept, line-fits, all-heard}
+use Rattle.trace.proofs.Loop.{telling}
 use Rattle.trace.proofs.pieces.feed.Statement.{statement}
 use Rattle.trace.proofs.pieces.feed.Tie as tie
 
 abbrev Inv-loop : tie.InvT-loop
-Inv-loop input output₀ state₀ at₀ i₀ output state at i = Heard state₀ input output₀ i state at output
+Inv-loop input output₀ state₀ at₀ i₀ output state at i = Heard telling state₀ input output₀ i state at output
 
 abbrev μ-loop : tie.MeasureT-loop
 μ-loop input output₀ state₀ at₀ i₀ output state at i = length input - i
 
 loop-holds : tie.Need-loop-holds Inv-loop μ-loop
-loop-holds c = none-heard _ _ _
+loop-holds c = none-heard telling _ _ _
 
 shared-slice-read-hear : tie.Need-shared-slice-read-hear Inv-loop μ-loop
 shared-slice-read-hear c = search needs
 
 sub-hear : tie.Need-sub-hear Inv-loop μ-loop
-sub-hear c = omega (arith, line-fits _ _ _ _ _ _ _ (c .before .before .loop .inv) (c .before .before .before .before .before .pre) (c .before .loop-test .taken))
+sub-hear c = omega (arith, one-fits telling _ _ _ _ _ _ _ (c .before .before .loop .inv) (c .before .before .before .before .before .pre) (c .before .loop-test .taken))
 
 part-hear-start : tie.Need-part-hear-start Inv-loop μ-loop
-part-hear-start c = omega (arith, line-fits _ _ _ _ _ _ _ (c .before .before .loop .inv) (c .before .before .before .before .before .pre) (c .before .loop-test .taken))
+part-hear-start c = omega (arith, one-fits telling _ _ _ _ _ _ _ (c .before .before .loop .inv) (c .before .before .before .before .before .pre) (c .before .loop-test .taken))
 
 part-hear-end : tie.Need-part-hear-end Inv-loop μ-loop
 part-hear-end c = omega arith
 
 hear-requires : tie.Need-hear-requires Inv-loop μ-loop
-hear-requires c κs = simp (length-take, length-drop) (omega (arith, line-fits _ _ _ _ _ _ _ (c .before .before .before .loop .inv) (c .before .before .before .before .before .before .pre) (c .before .before .loop-test .taken)))
+hear-requires c κs = simp (length-take, length-drop) (omega (arith, one-fits telling _ _ _ _ _ _ _ (c .before .before .before .loop .inv) (c .before .before .before .before .before .before .pre) (c .before .before .loop-test .taken)))
 
 add-at : tie.Need-add-at Inv-loop μ-loop
 unfolding fedOf
 add-at c =
-    omega (arith, line-fits _ _ _ _ _ _ _ (c .before .before .before .before .before .before .before .before .loop .inv) (c .before .before .before .before .before .before .before .before .before .before .before .pre) (c .before .before .before .before .before .before .before .loop-test .taken), length-kept _ _ _ _ _ _ _ (c .before .before .before .before .before .before .before .before .loop .inv) (c .before .before .before .before .before .before .before .before .before .before .before .pre), c .before .before .before .before .before .before .before .before .before .before .before .good, ap (λ (f : Fed). f .length) (c .before .before .before .before .hear .ensures .0), byte-most (c .before .before .before .before .before .before .before .before .loop .state) (getD (now (c .before .before .before .before .before .before .before .before .before .before .before .args .input)) (c .before .before .before .before .before .before .before .before .loop .i) 0))
+    omega (arith, one-fits telling _ _ _ _ _ _ _ (c .before .before .before .before .before .before .before .before .loop .inv) (c .before .before .before .before .before .before .before .before .before .before .before .pre) (c .before .before .before .before .before .before .before .loop-test .taken), length-kept telling _ _ _ _ _ _ _ (c .before .before .before .before .before .before .before .before .loop .inv) (c .before .before .before .before .before .before .before .before .before .before .before .pre), c .before .before .before .before .before .before .before .before .before .before .before .good, ap (λ (f : Fed). f .length) (c .before .before .before .before .hear .ensures .0), byte-most telling (c .before .before .before .before .before .before .before .before .loop .state) (getD (now (c .before .before .before .before .before .before .before .before .before .before .before .args .input)) (c .before .before .before .before .before .before .before .before .loop .i) 0))
 
 add-i : tie.Need-add-i Inv-loop μ-loop
 add-i c = search needs
@@ -51,13 +51,15 @@ loop-less c = search needs
 loop-again : tie.Need-loop-again Inv-loop μ-loop
 unfolding fedOf
 loop-again c =
-    rw (c .before .before .before .before .hear .ensures .1, c .before .before .before .before .hear .ensures .0) (one-more _ _ _ _ _ _ _ (c .before .before .before .before .before .before .before .before .loop .inv) (c .before .before .before .before .before .before .before .before .before .before .before .pre) (c .before .before .before .before .before .before .before .loop-test .taken))
+    rw (c .before .before .before .before .hear .ensures .1, c .before .before .before .before .hear .ensures .0) (one-more telling _ _ _ _ _ _ _ (c .before .before .before .before .before .before .before .before .loop .inv) (c .before .before .before .before .before .before .before .before .before .before .before .pre) (c .before .before .before .before .before .before .before .loop-test .taken))
 
 same-length : tie.Need-same-length Inv-loop μ-loop
-same-length c = length-kept _ _ _ _ _ _ _ (c .before .loop .inv) (c .before .before .before .before .pre)
+same-length c = length-kept telling _ _ _ _ _ _ _ (c .before .loop .inv) (c .before .before .before .before .pre)
 
 returns : tie.Need-returns Inv-loop μ-loop
-returns c = all-heard _ _ _ _ _ _ _ (c .before .loop .inv) (c .loop-test .left)
+unfolding fedOf
+returns c =
+    let all = all-heard telling _ _ _ _ _ _ _ (c .before .loop .inv) (c .loop-test .left) in (rw (all .0, all .1), all .2)
 
 pub feed-spec : {M : Type 1} → statement M
 feed-spec =

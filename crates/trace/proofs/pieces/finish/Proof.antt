@@ -2,7 +2,8 @@
 use mathlib.Core.Path.{refl}
 use borrow.Author.Needs.{needs}
 use Rattle.trace.specs.Text.{odd, oddFor}
-use Rattle.trace.specs.Pieces.{written, endingOf}
+use Rattle.lines.specs.Text.{written}
+use Rattle.trace.specs.Pieces.{endingOf}
 use Rattle.trace.proofs.pieces.finish.Statement.{statement}
 use Rattle.trace.proofs.pieces.finish.Tie as tie
 

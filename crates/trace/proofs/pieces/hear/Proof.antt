@@ -2,9 +2,10 @@
 use mathlib.Core.Path.{refl, _∙_}
 use borrow.Author.Needs.{needs}
 use Rattle.dock.specs.Run.{after}
-use Rattle.trace.specs.Line.{lineOf}
+use Rattle.lines.specs.Line.{lineOf}
 use Rattle.trace.specs.Text.{wordsIn, loneIn, linesOf}
-use Rattle.trace.specs.Pieces.{written, linesFed, traceFed, fedOf}
+use Rattle.lines.specs.Text.{written}
+use Rattle.trace.specs.Pieces.{linesFed, traceFed, fedOf}
 use Rattle.trace.proofs.pieces.hear.Statement.{statement}
 use Rattle.trace.proofs.pieces.hear.Tie as tie
 

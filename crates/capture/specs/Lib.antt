@@ -1,0 +1,5 @@
+pub mod Number
+pub mod Rows
+pub mod Pieces
+pub mod Arguments
+pub mod Examples

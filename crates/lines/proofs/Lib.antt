@@ -1,0 +1,4 @@
+pub mod Written
+pub mod Telling
+pub mod Sign
+pub mod Determined

@@ -1,0 +1,11 @@
+pub mod Places
+pub mod Cut
+pub mod Loop
+pub mod Bytes
+pub mod Samples
+pub mod Clocked
+pub mod Ninth
+pub mod Waves
+pub mod Fit
+pub mod Spoken
+pub mod Theorems
