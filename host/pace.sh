@@ -6,15 +6,18 @@
 pace=$out/pace
 pace_flags=(-O3 -ffunction-sections -fdata-sections -Wno-override-module)
 
-# pace_objects TARGET: the library and the C controller.
+# pace_objects TARGET: the library, the C controller and the wire cell in C.
 pace_objects() {
+    local part
     mkdir -p "$pace/$1"
     "$tools/bin/clang" --target="$1" "${pace_flags[@]}" -c -x ir "$module" -o "$pace/$1/dock.o" 2>"$pace/messages" || {
         cat "$pace/messages" >&2
         return 1
     }
-    "$tools/bin/clang" --target="$1" "${c_flags[@]}" "${pace_flags[@]}" -ffreestanding -nostdlibinc \
-        -isystem "$small/libc" -c "$here/plain/held.c" -o "$pace/$1/held.o"
+    for part in held wire; do
+        "$tools/bin/clang" --target="$1" "${c_flags[@]}" "${pace_flags[@]}" -ffreestanding -nostdlibinc \
+            -isystem "$small/libc" -c "$here/plain/$part.c" -o "$pace/$1/$part.o"
+    done
 }
 
 time_pace() {
@@ -25,7 +28,7 @@ time_pace() {
         return 0
     fi
     pace_objects "$target"
-    cc -std=gnu99 "${warnings[@]}" -O2 -I "$library" -I "$here/plain" "$here/c/pace.c" "$pace/$target"/{dock,held}.o \
+    cc -std=gnu99 "${warnings[@]}" -O2 -I "$library" -I "$here/plain" "$here/c/pace.c" "$pace/$target"/{dock,held,wire}.o \
         -o "$pace/pace"
     echo "on this machine, $(uname -m), medians of $1 runs; batch: 16,384 events a call; step: one event a call"
     "$pace/pace" "$1"
@@ -60,12 +63,17 @@ count_pace() {
         -DPACE_COUNT -I "$library" -I "$here/plain" -c "$here/c/pace.c" -o "$pace/$target/count.o"
     "$tools/bin/clang" --target="$target" -Os -fno-builtin -ffreestanding -nostdlibinc -isystem "$small/libc" \
         -c "$small/memory.c" -o "$pace/$target/memory.o"
-    "$tools/bin/ld.lld" --gc-sections -o "$pace/count" "$pace/$target"/{count,dock,held,memory}.o
+    "$tools/bin/ld.lld" --gc-sections -o "$pace/count" "$pace/$target"/{count,dock,held,wire,memory}.o
     echo
     printf '%-36s %8s %8s %6s %8s %8s %6s\n' "x86-64 instructions for each event" batch C ratio step C ratio
     row_of_counts ticks 0 96
     row_of_counts "bus events (whole writes and reads)" 1 96
     row_of_counts "a realistic mix" 2 390
+    echo
+    printf '%-36s %8s %8s %6s %8s %8s %6s\n' "x86-64 instructions for each sample" listen C ratio singly C ratio
+    row_of_counts "idle lines" 3 390
+    row_of_counts "a clock held low" 4 390
+    row_of_counts "a bus at 100 kHz" 5 390
 }
 
 pace() {

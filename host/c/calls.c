@@ -82,6 +82,7 @@ static void test_begin(void) {
     memset(state_buffer.copy, PAINT, sizeof state_buffer.copy);
     CHECK(only_changed(&state_buffer, DOCK_STATE_BYTES));
     CHECK(dock_outputs(state, DOCK_STATE_BYTES) == 0);
+    CHECK(dock_held_byte(state, DOCK_STATE_BYTES) == 0);
     for (unsigned address = 0; address < 256; address++) {
         CHECK(dock_reading(state, DOCK_STATE_BYTES, (uint8_t)address) == 0);
     }
@@ -94,6 +95,7 @@ static void refuse_length(uint8_t *bytes, uint64_t length) {
     CHECK(dock_batch(bytes, length, words, 1, records, DOCK_RECORD_BYTES) == 0x00010000u);
     CHECK(dock_reading(bytes, length, 0x00) == 0x00010000u);
     CHECK(dock_outputs(bytes, length) == 0x00010000u);
+    CHECK(dock_held_byte(bytes, length) == 0x00010000u);
     CHECK(dock_name_kind(bytes, length, DOCK_SECOND_KIND) == 0x00010000u);
     CHECK(dock_name_kind(bytes, length, 0) == 0x00010000u);
     CHECK(untouched());
@@ -168,10 +170,25 @@ static void refuse_byte(size_t at, uint8_t value) {
     CHECK(dock_batch(state, DOCK_STATE_BYTES, NULL, 0, NULL, 0) == 0x00010000u);
     CHECK(dock_reading(state, DOCK_STATE_BYTES, 0x00) == 0x00010000u);
     CHECK(dock_outputs(state, DOCK_STATE_BYTES) == 0x00010000u);
+    CHECK(dock_held_byte(state, DOCK_STATE_BYTES) == 0x00010000u);
     CHECK(dock_name_kind(state, DOCK_STATE_BYTES, DOCK_FIRST_KIND) == 0x00010000u);
     CHECK(dock_name_kind(state, DOCK_STATE_BYTES, 3) == 0x00010000u);
     CHECK(untouched());
     state[at] = before;
+}
+
+/* What a state holds is what a TAKE drives, ACKed or not: asked of a copy. */
+static void check_held(const uint8_t *bytes) {
+    uint32_t held = dock_held_byte(bytes, DOCK_STATE_BYTES);
+    for (uint16_t take = 0x6000; take <= 0x6001; take++) {
+        uint8_t copy[DOCK_STATE_BYTES];
+        uint32_t record;
+        memcpy(copy, bytes, sizeof copy);
+        record = dock_step(copy, sizeof copy, take);
+        CHECK(held == (dock_record_reply(record) == DOCK_DRIVEN ? DOCK_HELD | dock_record_byte(record) : 0u));
+        CHECK(dock_is_held(held) == (dock_record_reply(record) == DOCK_DRIVEN));
+        CHECK(!dock_is_held(held) || dock_held(held) == dock_record_byte(record));
+    }
 }
 
 /* One byte of an image changed so that it is the image of another fit state, which is asked and left as it is. */
@@ -180,6 +197,7 @@ static void take_byte(size_t at, uint8_t value) {
     state[at] = value;
     remember(&state_buffer);
     CHECK(dock_refusal(dock_outputs(state, DOCK_STATE_BYTES)) == DOCK_ACCEPTED);
+    check_held(state);
     CHECK(untouched());
     state[at] = before;
 }
@@ -374,12 +392,66 @@ static void test_story(void) {
         record = dock_step(by_step, sizeof by_step, STORY[i]);
         CHECK(record == dock_record(records + DOCK_RECORD_BYTES * i));
         CHECK(dock_outputs(by_step, sizeof by_step) == dock_record_outputs(record));
+        check_held(by_step);
         CHECK(dock_record_refusal(record) == DOCK_ACCEPTED || memcmp(before, by_step, sizeof before) == 0);
         CHECK(dock_kind(STORY[i]) != DOCK_TAKE || dock_record_byte(record) == read);
     }
     CHECK(memcmp(by_step, state, sizeof by_step) == 0);
     CHECK(dock_record_refusal(dock_record(records)) == DOCK_NOT_STARTED);
     CHECK(dock_record_refusal(dock_record(records + 2 * DOCK_RECORD_BYTES)) == DOCK_STRAY_BIT);
+}
+
+/* A read of the register in a fresh state of this kind: what is held at each event up to the own read byte. */
+static void open_read(uint8_t kind, uint8_t address) {
+    const uint16_t opening[] = {0xC0BF, 0x0000, 0x4090, (uint16_t)(0x4000u | address), 0x0000};
+    begin();
+    CHECK(dock_name_kind(state, DOCK_STATE_BYTES, kind) == 0);
+    for (size_t i = 0; i < COUNT(opening); i++) {
+        CHECK(dock_record_refusal(dock_step(state, DOCK_STATE_BYTES, opening[i])) == DOCK_ACCEPTED);
+        CHECK(dock_held_byte(state, DOCK_STATE_BYTES) == 0);
+    }
+    CHECK(dock_record_reply(dock_step(state, DOCK_STATE_BYTES, 0x4091)) == DOCK_ACK);
+    remember(&state_buffer);
+    CHECK(dock_held_byte(state, DOCK_STATE_BYTES) == (DOCK_HELD | dock_reading(state, DOCK_STATE_BYTES, address)));
+    CHECK(untouched());
+}
+
+/* What is held once a read is open, in either kind: BSTR of bay 0, and 02h, which reads 00h. */
+static void test_held_byte(void) {
+    static const uint16_t ends[] = {0x0000, 0x2000, 0x4091, 0x6000, 0xE000, 0xC0BF};
+    static const uint16_t passed_over[] = {0x80FF, 0xA000, 0xA001};
+    for (uint8_t kind = DOCK_FIRST_KIND; kind <= DOCK_SECOND_KIND; kind++) {
+        uint8_t status = kind == DOCK_FIRST_KIND ? 0x10 : 0x14;
+        for (size_t i = 0; i < COUNT(ends); i++) {
+            open_read(kind, status);
+            dock_step(state, DOCK_STATE_BYTES, ends[i]);
+            CHECK(dock_held_byte(state, DOCK_STATE_BYTES) == 0);
+        }
+        /* The byte stays what it was read as, though the device leaves; a name leaves it too. */
+        open_read(kind, status);
+        for (size_t i = 0; i < 20 * COUNT(passed_over); i++) {
+            dock_step(state, DOCK_STATE_BYTES, passed_over[i % COUNT(passed_over)]);
+            CHECK(dock_name_kind(state, DOCK_STATE_BYTES, (uint8_t)(1 + i % 2)) == 0);
+            CHECK(dock_held_byte(state, DOCK_STATE_BYTES) == (DOCK_HELD | 0x05));
+        }
+        CHECK(dock_reading(state, DOCK_STATE_BYTES, status) != 0x05);
+        open_read(kind, 0x02);
+        CHECK(dock_held_byte(state, DOCK_STATE_BYTES) == DOCK_HELD);
+        /* A TAKE that is ACKed reads the next register in the second kind, and ends the read in the first. */
+        open_read(kind, 0x00);
+        for (uint8_t address = 1; address != 0; address++) {
+            uint32_t next = DOCK_HELD | dock_reading(state, DOCK_STATE_BYTES, address);
+            dock_step(state, DOCK_STATE_BYTES, 0x6001);
+            CHECK(dock_held_byte(state, DOCK_STATE_BYTES) == (kind == DOCK_SECOND_KIND ? next : 0));
+        }
+        /* Before a RESET no read is open, and one of the other kind counts as none. */
+        open_read(kind, status);
+        state[DOCK_AT_STARTED] = 0;
+        CHECK(dock_held_byte(state, DOCK_STATE_BYTES) == 0);
+        state[DOCK_AT_STARTED] = 1;
+        state[DOCK_AT_KIND] ^= 1;
+        CHECK(dock_held_byte(state, DOCK_STATE_BYTES) == 0);
+    }
 }
 
 /* What the story leaves, field by field, so that each name stands for the byte that it says. */
@@ -620,6 +692,7 @@ int main(void) {
     test_older_layouts();
     test_progress();
     test_story();
+    test_held_byte();
     test_fields();
     test_names();
     test_second_kind();

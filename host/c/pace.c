@@ -1,14 +1,17 @@
-/* The library and the C controller on the same words, both made by one compiler: `pace REPEATS` tells the nanoseconds
- * for each event on the machine itself, medians of so many runs of each, which take turns. With PACE_COUNT defined it is
- * a program without a system, `pace LIST SIDE WORDS`, that only gives the words to one side, for an emulator to count the
- * instructions. The lists are those of speed/src/lists.rs. */
+/* The library and the C controller on the same words, and the wire cells of both on the same samples, made by one
+ * compiler: `pace REPEATS` tells the nanoseconds for each event and for each sample on the machine itself, medians of so
+ * many runs of each, which take turns. With PACE_COUNT defined it is a program without a system, `pace LIST SIDE COUNT`,
+ * that only gives the words, or the samples, to one side, for an emulator to count the instructions. The lists are those
+ * of speed/src/lists.rs and speed/src/wire.rs; the lists of samples come after those of words. */
 #include "dock.h"
 #include "held.h"
+#include "wire.h"
 
 #include <stddef.h>
 #include <stdint.h>
 
 enum { WORDS = 16384, PART = 256, LISTS = 3, SIDES = 4 };
+enum { SAMPLES = DOCK_MOST_SAMPLES, SAMPLE_PART = 512, SAMPLE_LISTS = 3 };
 
 static const uint16_t RESET = 0xC0BF, STOP = 0x2000, BYTE = 0x4000, TAKE_NACK = 0x6000, TICK = 0xA000;
 static const uint16_t DEVICE = 0x80BF, DEVICE_AND_BUTTON = 0x809F, NOTHING = 0x80FF;
@@ -91,6 +94,106 @@ static void make_lists(void) {
     repeat_part(words[2]);
 }
 
+/* ---- samples ---- */
+
+static uint8_t samples[SAMPLE_LISTS][SAMPLES];
+static uint16_t heard[SIDES][SAMPLES];
+static uint8_t sample_part[SAMPLE_PART];
+static size_t sample_part_length;
+
+static void put_sample(int sample) { sample_part[sample_part_length++] = (uint8_t)sample; }
+
+/* Five samples for each bit, which is 100 kHz. */
+static void put_bit(int bit) {
+    put_sample(bit);
+    put_sample(bit);
+    put_sample(DOCK_SCLK | bit);
+    put_sample(DOCK_SCLK | bit);
+    put_sample(bit);
+}
+
+static void put_nine(int value, int ninth) {
+    for (int place = 7; place >= 0; place--) {
+        put_bit(value >> place & 1);
+    }
+    put_bit(ninth);
+}
+
+static void put_start(void) {
+    put_sample(DOCK_SDAT);
+    put_sample(DOCK_SCLK | DOCK_SDAT);
+    put_sample(DOCK_SCLK | DOCK_SDAT);
+    put_sample(DOCK_SCLK);
+    put_sample(0);
+}
+
+static void put_stop(void) {
+    put_sample(0);
+    put_sample(DOCK_SCLK);
+    put_sample(DOCK_SCLK);
+    put_sample(DOCK_SCLK | DOCK_SDAT);
+    put_sample(DOCK_SCLK | DOCK_SDAT);
+}
+
+static void repeat_samples(uint8_t *list) {
+    size_t at = 0;
+    for (size_t i = 0; i < SAMPLES; i++) {
+        list[i] = sample_part[at];
+        at = at + 1 == sample_part_length ? 0 : at + 1;
+    }
+    sample_part_length = 0;
+}
+
+static void make_samples(void) {
+    put_sample(DOCK_SCLK | DOCK_SDAT);
+    repeat_samples(samples[0]);
+
+    put_sample(DOCK_SDAT);
+    repeat_samples(samples[1]);
+
+    put_start();
+    put_nine(0x90, 0);
+    put_nine(0x10, 0);
+    put_start();
+    put_nine(0x91, 0);
+    put_nine(0x55, 1);
+    put_stop();
+    repeat_samples(samples[2]);
+}
+
+static void library_listen(const uint8_t *list, size_t count, uint16_t *into) {
+    uint8_t held[DOCK_WIRE_BYTES];
+    dock_wire_begin(held, sizeof held);
+    dock_wire_listen(held, sizeof held, list, count, into, count);
+}
+
+static void plain_listen(const uint8_t *list, size_t count, uint16_t *into) {
+    struct plain_wire wire;
+    plain_wire_begin(&wire);
+    plain_wire_listen(&wire, list, count, into);
+}
+
+static void library_singly(const uint8_t *list, size_t count, uint16_t *into) {
+    uint8_t held[DOCK_WIRE_BYTES];
+    dock_wire_begin(held, sizeof held);
+    for (size_t i = 0; i < count; i++) {
+        into += dock_value(dock_wire_listen(held, sizeof held, list + i, 1, into, 1));
+    }
+}
+
+static void plain_singly(const uint8_t *list, size_t count, uint16_t *into) {
+    struct plain_wire wire;
+    plain_wire_begin(&wire);
+    for (size_t i = 0; i < count; i++) {
+        into += plain_wire_listen(&wire, list + i, 1, into);
+    }
+}
+
+typedef void listen_t(const uint8_t *list, size_t count, uint16_t *into);
+static listen_t *const listens[SIDES] = {library_listen, plain_listen, library_singly, plain_singly};
+
+/* ---- words ---- */
+
 static void put_record(uint8_t *record, uint32_t bits) {
     for (unsigned i = 0; i < DOCK_RECORD_BYTES; i++) {
         record[i] = (uint8_t)(bits >> (24 - 8 * i));
@@ -138,8 +241,14 @@ static size_t number(const char *text) {
 
 /* Entered with the stack that a Linux process begins with: the count of arguments, then the arguments. */
 __attribute__((used, noreturn)) static void begin(char **stack) {
+    size_t list = number(stack[2]), side = number(stack[3]), count = number(stack[4]);
     make_lists();
-    sides[number(stack[3])](words[number(stack[2])], number(stack[4]), records[0]);
+    make_samples();
+    if (list < LISTS) {
+        sides[side](words[list], count, records[0]);
+    } else {
+        listens[side](samples[list - LISTS], count, heard[0]);
+    }
     __asm__ volatile("syscall" : : "a"(60), "D"(0));
     __builtin_unreachable();
 }
@@ -183,23 +292,52 @@ static void time_list(const uint16_t *list, size_t repeats) {
     }
 }
 
+static void time_samples(const uint8_t *list, size_t repeats) {
+    for (size_t run = 0; run < repeats; run++) {
+        for (int side = 0; side < SIDES; side++) {
+            memset(heard[side], 0, sizeof heard[side]);
+            double from = now();
+            listens[side](list, SAMPLES, heard[side]);
+            times[side][run] = (now() - from) / SAMPLES;
+        }
+    }
+}
+
 static int all_agree(void) {
     for (int side = 1; side < SIDES; side++) {
-        if (memcmp(records[0], records[side], sizeof records[0]) != 0) {
+        if (memcmp(records[0], records[side], sizeof records[0]) != 0 ||
+            memcmp(heard[0], heard[side], sizeof heard[0]) != 0) {
             return 0;
         }
     }
     return 1;
 }
 
+/* What the lists of one kind took. */
+static int tell(const char *name, size_t repeats) {
+    double of[SIDES];
+    if (!all_agree()) {
+        fprintf(stderr, "pace: the records or the words differ\n");
+        return 0;
+    }
+    for (int side = 0; side < SIDES; side++) {
+        of[side] = median(times[side], repeats);
+    }
+    printf("%-36s %8.2f %8.2f %6.2f %8.2f %8.2f %6.2f\n", name, of[0], of[1], of[0] / of[1], of[2], of[3],
+           of[2] / of[3]);
+    return 1;
+}
+
 int main(int count, char **arguments) {
     static const char *const names[LISTS] = {"ticks", "bus events (whole writes and reads)", "a realistic mix"};
+    static const char *const sample_names[SAMPLE_LISTS] = {"idle lines", "a clock held low", "a bus at 100 kHz"};
     long repeats = count == 2 ? strtol(arguments[1], NULL, 10) : 0;
     if (repeats < 1 || repeats > 1000000) {
         fprintf(stderr, "usage: pace REPEATS\n");
         return 2;
     }
     make_lists();
+    make_samples();
     for (int side = 0; side < SIDES; side++) {
         times[side] = malloc((size_t)repeats * sizeof *times[side]);
         if (times[side] == NULL) {
@@ -209,17 +347,17 @@ int main(int count, char **arguments) {
     }
     printf("%-36s %8s %8s %6s %8s %8s %6s\n", "ns for each event", "batch", "C", "ratio", "step", "C", "ratio");
     for (int list = 0; list < LISTS; list++) {
-        double of[SIDES];
         time_list(words[list], (size_t)repeats);
-        if (!all_agree()) {
-            fprintf(stderr, "pace: the records differ\n");
+        if (!tell(names[list], (size_t)repeats)) {
             return 1;
         }
-        for (int side = 0; side < SIDES; side++) {
-            of[side] = median(times[side], (size_t)repeats);
+    }
+    printf("\n%-36s %8s %8s %6s %8s %8s %6s\n", "ns for each sample", "listen", "C", "ratio", "singly", "C", "ratio");
+    for (int list = 0; list < SAMPLE_LISTS; list++) {
+        time_samples(samples[list], (size_t)repeats);
+        if (!tell(sample_names[list], (size_t)repeats)) {
+            return 1;
         }
-        printf("%-36s %8.2f %8.2f %6.2f %8.2f %8.2f %6.2f\n", names[list], of[0], of[1], of[0] / of[1], of[2], of[3],
-               of[2] / of[3]);
     }
     return 0;
 }

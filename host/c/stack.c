@@ -18,11 +18,16 @@ static const uint16_t TICK = 0xA000;
 static const uint16_t COMMANDS[] = {0x0000, 0x4090, 0x4014, 0x40AD, 0x2000, 0x0000,
                                     0x4090, 0x4010, 0x0000, 0x4091, 0x6000};
 
+/* A START, eight bits, and a STOP. */
+static const uint8_t BYTE_OF_ZEROS[] = {3, 2, 0, 2, 0, 2, 0, 2, 0, 2, 0, 2, 0, 2, 0, 2, 0, 2, 3};
+
 static unsigned char stack[STACK_BYTES];
 static uint8_t state[DOCK_STATE_BYTES];
 static uint16_t words[WORDS];
 static uint8_t records[WORDS * DOCK_RECORD_BYTES];
 static volatile uint32_t answer;
+static uint8_t held[DOCK_WIRE_BYTES];
+static uint8_t samples[WORDS];
 
 static void nothing(void) { answer = 0; }
 static void version(void) { answer = dock_version(); }
@@ -31,12 +36,15 @@ static void batch(void) { answer = dock_batch(state, sizeof state, words, WORDS,
 static void replay(void) { answer = dock_replay(words, WORDS, records, sizeof records); }
 static void reading(void) { answer = dock_reading(state, sizeof state, 0x10); }
 static void outputs(void) { answer = dock_outputs(state, sizeof state); }
+static void held_byte(void) { answer = dock_held_byte(state, sizeof state); }
 static void name_kind(void) { answer = dock_name_kind(state, sizeof state, DOCK_FIRST_KIND); }
 /* The deepest of them is what counts. */
 static void steps(void) {
     for (size_t i = 0; i < WORDS; i++)
         answer = dock_step(state, sizeof state, words[i]);
 }
+static void wire_begin(void) { answer = dock_wire_begin(held, sizeof held); }
+static void wire_listen(void) { answer = dock_wire_listen(held, sizeof held, samples, WORDS, words, WORDS); }
 static void pack(void) { answer = dock_pack(DOCK_TICK, 0, 0); }
 static void unpack(void) { answer = dock_unpack(TICK); }
 
@@ -45,6 +53,11 @@ static void fill_words(const uint16_t *part, size_t length) {
     words[0] = RESET;
     for (size_t i = 1; i < WORDS; i++)
         words[i] = part[(i - 1) % length];
+}
+
+static void fill_samples(void) {
+    for (size_t i = 0; i < WORDS; i++)
+        samples[i] = BYTE_OF_ZEROS[i % sizeof BYTE_OF_ZEROS];
 }
 
 /* A stack grows down: the paint is whole from its low end up to the deepest byte that was written. */
@@ -85,7 +98,12 @@ int main(void) {
     printf("  questions, and the rest\n");
     report("dock_reading", reading);
     report("dock_outputs", outputs);
+    report("dock_held_byte", held_byte);
     report("dock_name_kind", name_kind);
+    dock_wire_begin(held, sizeof held);
+    fill_samples();
+    report("dock_wire_begin", wire_begin);
+    report("dock_wire_listen", wire_listen);
     report("dock_pack", pack);
     report("dock_unpack", unpack);
     report("dock_version", version);

@@ -1,4 +1,4 @@
-/* The proved controller of a two-bay cartridge dock, version 5.0, for C99 or C++11 and newer.
+/* The proved controller of a two-bay cartridge dock, version 5.1, for C99 or C++11 and newer.
  *
  * A program holds the controller's state as DOCK_STATE_BYTES bytes and gives it one event at a time:
  *
@@ -44,6 +44,9 @@ extern "C" {
  * rises where a program that was built on an older header would misread or misuse a call, the second where it would
  * not.
  *
+ * Since 5.1 dock_held_byte tells the byte that an open read holds, and dock_wire_begin and dock_wire_listen are a wire
+ * cell. No other call has changed.
+ *
  * Since 5.0 the library serves a second kind of controller behind the same calls, for drivers of the other maker's
  * part: dock_name_kind names it, and a RESET puts it in force; enum dock_controller_kind tells what is then different. A
  * program that never calls it sees what it saw. A state holds what that kind needs, so DOCK_STATE_BYTES is 74, where it
@@ -71,7 +74,7 @@ extern "C" {
  *
  * Before version 2, dock_reading and dock_outputs took words where they take a state now, and dock_unpack had a layout
  * of its own. A program that was built on such a header must be built again. */
-#define DOCK_VERSION 0x0500u
+#define DOCK_VERSION 0x0501u
 
 /* Bits of words and answers, numbers of events, replies and refusals that this header does not name are 0 or not given
  * in this version. A later one may use them, and then has a higher first number. A program that begins by asking
@@ -82,6 +85,8 @@ static inline int dock_fits_header(void) { return dock_version() >> 8 == DOCK_VE
 #define DOCK_STATE_BYTES 74u
 #define DOCK_RECORD_BYTES 4u
 #define DOCK_MOST_WORDS 16384u
+#define DOCK_WIRE_BYTES 7u
+#define DOCK_MOST_SAMPLES 16384u
 
 /* The kinds of events, and the two numbers that dock_pack takes and dock_unpack gives for each. A number that is not
  * named is 0. */
@@ -101,7 +106,7 @@ enum dock_kind_number {
 #define DOCK_SHORT_PULSE 0x100u
 
 /* The refusals, by call. "call": the call refuses. "record": the record of that word says so, and the call goes on.
- * dock_version gives 0 only.
+ * dock_version gives 0 only, and dock_held_byte is refused as dock_outputs is.
  *
  * | no. | given when | begin | step | batch | reading, outputs | name_kind | replay | pack | unpack |
  * |---|---|---|---|---|---|---|---|---|---|
@@ -202,6 +207,13 @@ uint32_t dock_reading(const uint8_t *state, uint64_t state_len, uint8_t address)
 /* Value: the nine outputs. */
 uint32_t dock_outputs(const uint8_t *state, uint64_t state_len);
 
+/* Value: the byte that an open read holds for the next TAKE, in bits 7-0 beside DOCK_HELD, or 0 where none is held. A
+ * read is open from the own read byte, which has reply DOCK_ACK, until the next START, STOP, BYTE, TAKE, TIMEOUT or
+ * RESET; in the second kind a TAKE that the host ACKs leaves it open, with the next byte. Pin changes, ticks and names
+ * leave the byte as it is. SDAT is driven from it before the TAKE is known, and from the reply to a BYTE. */
+uint32_t dock_held_byte(const uint8_t *state, uint64_t state_len);
+#define DOCK_HELD 0x100u /* set exactly if a byte is held: 00h isn't none */
+
 /* Names the kind of controller, DOCK_FIRST_KIND or DOCK_SECOND_KIND; any other number is refused with 14. The name comes
  * into force with the next RESET and stays for later ones; until then nothing changes, also within a command. It is no
  * event, and is taken before the first RESET too. Value: 0. */
@@ -218,11 +230,60 @@ uint32_t dock_pack(uint8_t kind, uint16_t first, uint8_t second);
  * which is RESET's short pulse, is in bits 31-24. */
 uint32_t dock_unpack(uint16_t word);
 
+/* ---- the wire cell: for a processor that has no bus cell, only two sampled pins ----
+ *
+ * It listens: samples of SCLK and SDAT come in, one every 2 microseconds, and words for dock_step or dock_batch go out.
+ * What it holds between calls are DOCK_WIRE_BYTES bytes of its own, beside the dock's state and handled as that is: saved
+ * by a copy, taken back as any bytes at all. What stays the caller's duty is the same, for held bytes, samples and words.
+ *
+ * - START and STOP: SDAT falls or rises while SCLK stays high, in the sample before and in this one.
+ * - BYTE: with the eighth bit of a byte. A bit is SDAT at the first high sample of SCLK, also where SDAT moves in that
+ *   sample; the most significant comes first. The ninth is passed over.
+ * - TAKE: after a START's first byte whose lowest bit is 1, whoever's address it is, with the ninth bit of each later
+ *   nine, which is low where the host ACKs.
+ * - TIMEOUT: with the 17,501st sample in a row in which SCLK is low (35 ms), once for that stretch.
+ *
+ * START, STOP and TIMEOUT are given whenever they are seen, and drop an unfinished byte. Bits count for nothing after a
+ * STOP or a TIMEOUT and in a fresh held state, whose lines are high, until a START comes.
+ *
+ * A sample gives at most one word, and however samples are cut into calls, the words and the held bytes are the same. A
+ * START or STOP whose own rise of SCLK completes a byte gives the BYTE first, or the TAKE where that rise is its ninth
+ * bit, and then the START or STOP. A host that does so is off the protocol.
+ *
+ * The cell drives nothing. Who drives SDAT does so from dock_step's reply to a BYTE and from dock_held_byte; driver.c,
+ * among the examples, is one to copy. The refusals:
+ *
+ * | no. | of dock_wire_begin | of dock_wire_listen |
+ * |---|---|---|
+ * | 1 | the held bytes have another length | .. or are no image of a fit held state |
+ * | 5 | | over 16,384 samples |
+ * | 4 | | fewer places for words than samples |
+ *
+ * Where more than one could be given, the order is 1, 5, 4. */
+
+/* The lines in a sample; its other bits are ignored. */
+enum dock_line {
+    DOCK_SDAT = 1,
+    DOCK_SCLK = 2
+};
+
+/* Writes the image of a fresh held state. Value: 0. */
+uint32_t dock_wire_begin(uint8_t *held, uint64_t held_len);
+
+/* The samples one after the other, and each word in the next place, from words[0] on. Places past the last word are not
+ * touched. Value: the count of words. */
+uint32_t dock_wire_listen(uint8_t *held, uint64_t held_len, const uint8_t *samples, uint64_t samples_len,
+                          uint16_t *words, uint64_t words_len);
+
 /* ---- answers taken apart ---- */
 
 /* Of every call but dock_step. */
 static inline uint32_t dock_refusal(uint32_t answer) { return answer >> 16 & 0xFFu; }
 static inline uint16_t dock_value(uint32_t answer) { return (uint16_t)(answer & 0xFFFFu); }
+
+/* dock_held_byte's answer: whether a byte is held, and which. */
+static inline int dock_is_held(uint32_t answer) { return (answer & DOCK_HELD) != 0; }
+static inline uint8_t dock_held(uint32_t answer) { return (uint8_t)(answer & 0xFFu); }
 
 /* dock_step's answer, or a record's four bytes as the same number. */
 static inline uint32_t dock_record(const uint8_t *bytes) {
@@ -308,6 +369,29 @@ static inline uint8_t dock_second(uint32_t unpacked) { return (uint8_t)(unpacked
 #define DOCK_BAY_PULSE 5u /* 0-200, in the second kind 0-1200 */
 #define DOCK_BAY_WAIT 7u  /* 0-255, in the second kind 0-560 */
 static inline uint16_t dock_ticks(const uint8_t *bytes) { return (uint16_t)(bytes[0] << 8 | bytes[1]); }
+
+/* ---- the image of the wire cell's held state, byte by byte ----
+ *
+ * Bytes are no image where the length is another one or byte 0 is not DOCK_WIRE_LAYOUT. Every other number outside its
+ * range makes them unfit. To a caller both are refusal 1. DOCK_WIRE_LAYOUT rises as DOCK_LAYOUT does. */
+#define DOCK_WIRE_LAYOUT 1u
+
+#define DOCK_WIRE_AT_VERSION 0u   /* DOCK_WIRE_LAYOUT */
+#define DOCK_WIRE_AT_SDAT 1u      /* 0-1: in the last sample */
+#define DOCK_WIRE_AT_LISTENING 2u /* 0-3: enum dock_wire_listening */
+#define DOCK_WIRE_AT_BITS 3u      /* 0-8: how many of the nine bits have come */
+#define DOCK_WIRE_AT_VALUE 4u     /* 0-255: of those bits, each taken in at the low end */
+#define DOCK_WIRE_AT_LOW 5u       /* 0-17501, in two bytes, the high one first: samples for which SCLK has been low */
+
+enum dock_wire_listening {
+    DOCK_HEARS_NOTHING = 0,
+    DOCK_HEARS_FIRST_BYTE = 1, /* of a START */
+    DOCK_HEARS_BYTES = 2,      /* from the host */
+    DOCK_HEARS_TAKES = 3       /* bytes that the host clocks in */
+};
+
+/* 0 where SCLK is high; at 17,501 it stays until then. */
+static inline uint16_t dock_wire_low(const uint8_t *held) { return dock_ticks(held + DOCK_WIRE_AT_LOW); }
 
 #ifdef __cplusplus
 }

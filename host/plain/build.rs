@@ -1,4 +1,4 @@
-//! Compiles the C controller at -O3 with the system's `cc`, for whoever builds with cargo.
+//! Compiles the C controller and the wire cell in C at -O3 with the system's `cc`, for whoever builds with cargo.
 
 use std::path::Path;
 use std::process::Command;
@@ -10,11 +10,16 @@ fn run(program: &str, arguments: &[&str]) {
 
 fn main() {
     let folder = std::env::var("OUT_DIR").expect("cargo sets OUT_DIR");
-    let object = Path::new(&folder).join("plain.o");
     let archive = Path::new(&folder).join("libplain.a");
-    run("cc", &["-std=c99", "-Wall", "-Wextra", "-Wpedantic", "-O3", "-c", "plain.c", "-o", &object.to_string_lossy()]);
-    run("ar", &["crs", &archive.to_string_lossy(), &object.to_string_lossy()]);
+    for name in ["plain", "wire"] {
+        let source = format!("{}.c", name);
+        let object = Path::new(&folder).join(format!("{}.o", name));
+        let object = object.to_string_lossy();
+        run("cc", &["-std=c99", "-Wall", "-Wextra", "-Wpedantic", "-O3", "-c", &source, "-o", &object]);
+        run("ar", &["crs", &archive.to_string_lossy(), &object]);
+        println!("cargo:rerun-if-changed={}", source);
+    }
     println!("cargo:rustc-link-search=native={}", folder);
     println!("cargo:rustc-link-lib=static=plain");
-    println!("cargo:rerun-if-changed=plain.c");
+    println!("cargo:rerun-if-changed=wire.h");
 }

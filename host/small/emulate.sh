@@ -11,6 +11,7 @@ build_images() {
     image loop "$1" "$here"/c/{firmware,store,board}.c "$chip"
     image c-example "$1" "$here/c/example.c"
     image calls "$1" "$here/c/calls.c"
+    image wire-calls "$1" "$here/c/wire_calls.c"
     image player "$1" "${player_sources[@]}"
 }
 
@@ -112,9 +113,11 @@ check_programs() {
     there loop "$1" loop.out <"$here/c/firmware.in"
     there c-example "$1" c-example.out </dev/null
     there calls "$1" calls.out </dev/null
+    there wire-calls "$1" wire-calls.out </dev/null
     same "$1: the main loop prints what is stored" "$firmware/$1/loop.out" "$here/firmware.out"
     same "$1: the example prints what is stored" "$firmware/$1/c-example.out" "$here/example.out"
     same "$1: the calls, checked from C, as on x86-64" "$firmware/$1/calls.out" "$firmware/calls.out"
+    same "$1: the wire cell's calls likewise" "$firmware/$1/wire-calls.out" "$firmware/wire-calls.out"
 }
 
 check_runs() {
@@ -150,7 +153,9 @@ emulate_all() {
     generated_runs "${1:-200000}" "${2:-1}" >"$firmware/generated.in"
     saving_runs >"$firmware/saving.in"
     for name in trace paper generated saving; do play_here "$name"; done
-    (start calls) >"$firmware/calls.out" || differs "calls on x86-64 ends with status $?"
+    for name in calls wire-calls; do
+        (start "$name") >"$firmware/$name.out" || differs "$name on x86-64 ends with status $?"
+    done
     for processor in "${processors[@]}"; do
         build_images "$processor"
         check_programs "$processor"

@@ -8,7 +8,7 @@ qemu=$here/.qemu
 # has; a Cortex-M3 runs that code as well.
 board_of() {
     case $1-$2 in
-    cortex-m3-* | cortex-m0-calls) system=arm board=mps2-an385 clock=25000000 ;;
+    cortex-m3-* | cortex-m0-calls | cortex-m0-wire-calls) system=arm board=mps2-an385 clock=25000000 ;;
     cortex-m0-*) system=arm board=microbit clock=16000000 ;;
     riscv32-*) system=riscv32 board=virt clock=0 ;;
     esac

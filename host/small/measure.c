@@ -1,11 +1,12 @@
 /* What calls take on the board: the stack that they write to and the instructions that they run, of the library and of
- * the C controller beside it. Prints a line for each, its numbers behind bars:
+ * the C controller, or the wire cell in C, beside it. Prints a line for each, its numbers behind bars:
  *
  *   what | instructions of the library | of the C controller | stack of the library | of the C controller
  *
  * The stack below this program is painted before a call, and the deepest word that lost its paint is looked for after
  * it. How instructions are counted is in count.h. What an empty call takes is subtracted from both. */
 #include "../plain/held.h"
+#include "../plain/wire.h"
 #include "count.h"
 #include "dock.h"
 
@@ -24,6 +25,10 @@ static uint16_t words[WORDS];
 static unsigned words_len;
 static uint8_t records[WORDS * DOCK_RECORD_BYTES];
 static volatile uint32_t answer;
+static uint8_t held[DOCK_WIRE_BYTES];
+static struct plain_wire plain_held;
+static uint8_t samples[WORDS];
+static unsigned samples_len;
 
 /* ---- calls ---- */
 
@@ -40,11 +45,17 @@ static void library_name_kind(void) { answer = dock_name_kind(state, sizeof stat
 static void library_pack(void) { answer = dock_pack(DOCK_BYTE, 0x90, 0); }
 static void library_unpack(void) { answer = dock_unpack(0x4090); }
 static void library_version(void) { answer = dock_version(); }
+static void library_wire_begin(void) { answer = dock_wire_begin(held, sizeof held); }
+static void library_listen(void) {
+    answer = dock_wire_listen(held, sizeof held, samples, samples_len, words, samples_len);
+}
 static void c_begin(void) { plain_begin(); }
 static void c_step(void) { answer = plain_step(word); }
 static void c_batch(void) { plain_batch(words, words_len, records); }
 static void c_reading(void) { answer = plain_register(0x10); }
 static void c_outputs(void) { answer = plain_pins(); }
+static void c_wire_begin(void) { plain_wire_begin(&plain_held); }
+static void c_listen(void) { answer = (uint32_t)plain_wire_listen(&plain_held, samples, samples_len, words); }
 
 /* ---- measures ---- */
 
@@ -189,6 +200,68 @@ static void tell_empty_batch(void) {
     tell("no words: the image loaded, tested and saved", cost_of(library_batch), cost_of(c_batch));
 }
 
+/* ---- samples ---- */
+
+struct moment {
+    const char *name; /* none: it only leads on */
+    uint8_t sample;
+};
+
+/* From idle lines: a START, the bits of 90h up to the eighth, and a STOP. */
+static const struct moment moments[] = {
+    {"lines that stay high", 3},
+    {"START", 2},
+    {"SCLK falls", 0},
+    {"SCLK stays low", 1},
+    {"a bit", 3},
+    {0, 0}, {0, 2}, {0, 0}, {0, 2}, {0, 1}, {0, 3}, {0, 0}, {0, 2}, {0, 0}, {0, 2}, {0, 0}, {0, 2}, {0, 0},
+    {"the eighth bit: BYTE", 2},
+    {0, 0},
+    {"the ninth bit", 2},
+    {"STOP", 3},
+};
+
+static void tell_moments(void) {
+    library_wire_begin();
+    c_wire_begin();
+    samples_len = 1;
+    for (unsigned i = 0; i < COUNT(moments); i++) {
+        samples[0] = moments[i].sample;
+        if (moments[i].name == 0) {
+            library_listen();
+            c_listen();
+        } else {
+            tell_both(moments[i].name, library_listen, c_listen);
+        }
+    }
+}
+
+/* Each sample's share, from a fresh held state. */
+static void tell_samples(const char *what, const uint8_t *part, unsigned length) {
+    library_wire_begin();
+    c_wire_begin();
+    samples_len = WORDS;
+    for (unsigned i = 0; i < WORDS; i++) {
+        samples[i] = part[i % length];
+    }
+    tell(what, share(cost_of(library_listen)), share(cost_of(c_listen)));
+}
+
+/* START, then bits of five samples each: 100 kHz. */
+static const uint8_t traffic[WORDS] = {3, 2, 0, 1, 1, 3, 3, 1, 0, 0, 2, 2, 0, 0, 0, 2, 2,
+                                       0, 1, 1, 3, 3, 1, 0, 0, 2, 2, 0, 1, 1, 3, 3, 1};
+static const uint8_t idle[] = {3};
+
+static void tell_wire(void) {
+    samples_len = 0;
+    library_wire_begin();
+    c_wire_begin();
+    tell("no samples: the image loaded, tested and saved", cost_of(library_listen), cost_of(c_listen));
+    tell_moments();
+    tell_samples("33 samples of idle lines, each", idle, COUNT(idle));
+    tell_samples("33 samples of a bus at 100 kHz, each", traffic, COUNT(traffic));
+}
+
 int main(void) {
     calibrate();
     printf("events\n");
@@ -197,6 +270,8 @@ int main(void) {
     tell_empty_batch();
     tell_batch("33 ticks, each", ticks, COUNT(ticks));
     tell_batch("33 bus events, each", commands, COUNT(commands));
+    printf("samples\n");
+    tell_wire();
     printf("calls\n");
     tell_both("dock_begin: a fresh image", library_begin, c_begin);
     tell_both("dock_outputs: an image loaded and tested", library_outputs, c_outputs);
@@ -204,9 +279,11 @@ int main(void) {
     tell_alone("dock_name_kind: the same, and saved", library_name_kind);
     fill(ticks, COUNT(ticks));
     tell_alone("dock_replay of 33 words", library_replay);
+    tell_both("dock_wire_begin: a fresh image", library_wire_begin, c_wire_begin);
     tell_alone("dock_pack", library_pack);
     tell_alone("dock_unpack", library_unpack);
     tell_alone("dock_version", library_version);
     printf("state|%u|%u\n", (unsigned)sizeof state, (unsigned)plain_bytes());
+    printf("held|%u|%u\n", (unsigned)sizeof held, (unsigned)sizeof plain_held);
     return 0;
 }

@@ -37,7 +37,8 @@ gather() {
         cp "$firmware/$processor/libdock.a" "$release/lib/$processor/"
     done
     cp -r "$here/dock" "$release/rust"
-    cp "$here"/c/{firmware,store,board,chip,example}.c "$here"/c/{firmware,ring,store,board,chip}.h "$release/example/"
+    cp "$here"/c/{firmware,store,board,chip,example,driver}.c "$release/example/"
+    cp "$here"/c/{firmware,ring,store,board,chip,driver}.h "$release/example/"
     cp "$here"/c/firmware.in "$here"/{firmware,example}.out "$release/example/"
     cp "$top/docs/TRUST.md" "$release/TRUST.md"
     report >"$release/REPORT.md"
@@ -72,7 +73,8 @@ toolchain of ours, no C library, no heap.
   those of C, and all are weak; where a C library of the firmware's comes before it on the command line, those are taken.
 - \`rust/\`: a safe wrapper, without std; its build script takes the library of the processor that is built for.
 - \`example/\`: a firmware's main loop to copy (\`firmware.c\`, \`ring.h\`, \`store.c\`, what it asks of a board: \`board.h\`), a
-  board made of text to try it on (\`board.c\`, \`chip.c\`, \`firmware.in\`), and one event at a time (\`example.c\`).
+  board made of text to try it on (\`board.c\`, \`chip.c\`, \`firmware.in\`), one event at a time (\`example.c\`), and what
+  drives SDAT on a processor that has no bus cell (\`driver.c\`), to copy too.
 - \`REPORT.md\`: code, stack and instructions on each processor. \`TRUST.md\`: what is proved and what must be believed; it
   names files of the repository that this was made of. \`SUMS\`: the sums below, for \`sha256sum -c SUMS\`.
 
@@ -104,6 +106,7 @@ check_release() {
         -L "$copy/lib/x86_64" -ldock
     compile_c "${c_flags[@]}" -O2 -I "$copy/include" -o "$copy/loop" "$copy"/example/{firmware,store,board,chip}.c \
         -L "$copy/lib/x86_64" -ldock
+    compile_c "${c_flags[@]}" -O2 -I "$copy/include" -c -o "$copy/driver.o" "$copy/example/driver.c"
     compile_rust "${rust_flags[@]}" --crate-type rlib --crate-name dock -o "$copy/libdock.rlib" \
         "$copy/rust/src/lib.rs" -L native="$copy/lib/x86_64" -l static=dock "${features[@]}"
     compile_rust "${rust_flags[@]}" -L "$copy" --extern dock="$copy/libdock.rlib" -o "$copy/rust-button" \

@@ -4,6 +4,8 @@
 
 held_calls=(dock_begin dock_step dock_batch dock_reading dock_outputs)
 plain_calls=(plain_begin plain_step plain_batch plain_register plain_pins)
+wire_calls=(dock_wire_begin dock_wire_listen)
+plain_wire_calls=(plain_wire_begin plain_wire_listen)
 
 # link_calls MAP CALL.. -- FILE..: what these calls need, and nothing else.
 link_calls() {
@@ -38,13 +40,17 @@ bytes() {
     sections "$1" | awk '{ sum += $1 } END { print sum + 0 }'
 }
 
-# Into $firmware/PROCESSOR: all ten calls, those on a held state, and the C controller's like them.
+# Into $firmware/PROCESSOR: all thirteen calls, those on a held state, the wire cell's, and those in C like them.
 map_sizes() {
     local folder=$firmware/$1
     flags_of "$1"
-    link_calls "$folder/all.map" "${held_calls[@]}" dock_{name_kind,replay,pack,unpack,version} -- "$folder/libdock.a"
+    link_calls "$folder/all.map" "${held_calls[@]}" "${wire_calls[@]}" \
+        dock_{name_kind,held_byte,replay,pack,unpack,version} -- "$folder/libdock.a"
     link_calls "$folder/held.map" "${held_calls[@]}" -- "$folder/libdock.a"
     link_calls "$folder/loop-calls.map" dock_{begin,step,outputs,pack,version} -- "$folder/libdock.a"
+    link_calls "$folder/wire.map" "${wire_calls[@]}" -- "$folder/libdock.a"
+    compile_small "$folder/wire.o" "$here/plain/wire.c"
+    link_calls "$folder/plain-wire.map" "${plain_wire_calls[@]}" -- "$folder/wire.o" "$folder/memory.o"
     compile_small "$folder/held.o" "$here/plain/held.c"
     link_calls "$folder/plain.map" "${plain_calls[@]}" -- "$folder/held.o" "$folder/memory.o"
     (level=(-Os) && compile_small "$folder/held-small.o" "$here/plain/held.c")
@@ -52,7 +58,7 @@ map_sizes() {
 }
 
 measure() {
-    image measure "$1" "$small/measure.c" "$here/plain/held.c"
+    image measure "$1" "$small/measure.c" "$here"/plain/{held,wire}.c
     emulate measure "$1" </dev/null >"$firmware/$1/measured"
 }
 
@@ -77,6 +83,9 @@ row() {
 
 all_bytes() { bytes "$firmware/$1/all.map"; }
 held_bytes() { bytes "$firmware/$1/held.map"; }
+wire_bytes() { bytes "$firmware/$1/wire.map"; }
+plain_wire_bytes() { bytes "$firmware/$1/plain-wire.map"; }
+wire_bytes_ratio() { ratio "$(wire_bytes "$1")" "$(plain_wire_bytes "$1")"; }
 loop_bytes() { bytes "$firmware/$1/loop-calls.map"; }
 plain_bytes() { bytes "$firmware/$1/plain.map"; }
 plain_small_bytes() { bytes "$firmware/$1/plain-small.map"; }
@@ -99,7 +108,10 @@ tell_sizes() {
     row "**library / C controller**" bytes_ratio
     row "C controller: the same five at \`-Os\`" plain_small_bytes
     row "**library / C controller at \`-Os\`**" small_bytes_ratio
-    row "library: all ten calls" all_bytes
+    row "library's wire cell: wire_begin, wire_listen" wire_bytes
+    row "wire cell in C, with the same flags" plain_wire_bytes
+    row "**library's wire cell / in C**" wire_bytes_ratio
+    row "library: all thirteen calls" all_bytes
     row "library: the five that the main loop calls" loop_bytes
 }
 
@@ -130,9 +142,10 @@ tell_frames() {
         while read -r function; do row "\`$function\`" frame_bytes; done
 }
 
-# Rows of one part of what was measured, a ratio where both were.
+# tell_measured PROCESSOR PART WHAT [OTHER]: rows of one part of what was measured, a ratio where both were.
 tell_measured() {
-    echo "| $3 | library | C controller | ratio | library's stack | C controller's | ratio |"
+    local other=${4:-C controller}
+    echo "| $3 | library | $other | ratio | library's stack | $other's | ratio |"
     echo "|---|---|---|---|---|---|---|"
     awk -F'|' -v part="$2" '
         function over(one, other) { return other == "" || other == 0 ? "" : sprintf("%.1f", one / other) }
@@ -150,6 +163,8 @@ tell_processor() {
 $(tell_measured "$1" events "instructions of an event, by one step")
 
 $(tell_measured "$1" batches "instructions by a batch")
+
+$(tell_measured "$1" samples "instructions of a sample, by one call" "cell in C")
 
 $(tell_measured "$1" calls "instructions of the other calls")
 
@@ -200,14 +215,15 @@ report() {
 # What a dock pays for the library on a small processor
 
 The library is made for each processor from the module of the one for x86-64; the C controller beside it is
-\`plain/plain.c\`, the first kind's job by hand, with its state in place. Both are compiled by the toolchain's clang at
+\`plain/plain.c\`, the first kind's job by hand, with its state in place, and the wire cell in C \`plain/wire.c\`. All are
+compiled by the toolchain's clang at
 \`${level[*]}\`. How each number comes about, and what it means: the README of this folder.
 
 ## Code
 
 $(tell_sizes)
 
-A firmware that links with \`--gc-sections\` takes only what it calls. All ten calls, one by one:
+A firmware that links with \`--gc-sections\` takes only what it calls. All thirteen calls, one by one:
 
 $(tell_functions)
 

@@ -227,6 +227,7 @@ impl Trials {
         let address = self.random.pick(&lists::ADDRESSES);
         held.reading(address)?;
         held.outputs()?;
+        held.held_byte()?;
         held.name_kind(word as u8)?;
         held.name_kind(2)?;
         held.begin()
@@ -237,7 +238,7 @@ impl Trials {
         let list = lists::onward(&mut self.random, dock, CALLS_AFTER);
         let (by_steps, by_batches) = list.split_at(CALLS_AFTER / 2);
         questions(held)?;
-        by_steps.iter().try_for_each(|&call| held.call(call))?;
+        by_steps.iter().try_for_each(|&call| held.call(call).and_then(|()| held.held_byte()))?;
         questions(held)?;
         in_batches(held, by_batches)?;
         questions(held)?;
@@ -248,6 +249,7 @@ impl Trials {
 
 fn questions(held: &mut Held) -> Result<(), Mismatch> {
     held.outputs()?;
+    held.held_byte()?;
     lists::ADDRESSES.iter().try_for_each(|&address| held.reading(address))
 }
 

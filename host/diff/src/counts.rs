@@ -20,7 +20,8 @@ impl fmt::Display for Counts {
         write!(f, "{} examples, {} stories, ", self.examples, self.stories)?;
         write!(f, "{} lists, {} words, ", self.lists, self.words)?;
         write!(f, "on a held state {} by steps and {} in batches, ", held.steps, held.batched)?;
-        write!(f, "{} readings, {} outputs, {} refused calls, ", held.readings, held.outputs, held.refused)?;
+        write!(f, "{} readings, {} outputs, {} held bytes, ", held.readings, held.outputs, held.held_bytes)?;
+        write!(f, "{} refused calls, ", held.refused)?;
         write!(f, "{} names, ", held.names)?;
         write!(f, "{} packs, {} unpacks", self.packs, self.unpacks)
     }

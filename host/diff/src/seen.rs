@@ -5,6 +5,7 @@ use crate::image::Image;
 use crate::names::Names;
 use crate::presses::Presses;
 use crate::pulses::{self, Pulses};
+use crate::reads::Reads;
 use crate::second_kind::{self, SecondKind};
 use crate::waits::{self, Waits};
 use model::Controller;
@@ -21,6 +22,7 @@ pub struct Seen {
     pulses: Pulses,
     waits: Waits,
     names: Names,
+    reads: Reads,
     second_kind: SecondKind,
     /// Since the last RESET.
     letr_written: bool,
@@ -41,10 +43,13 @@ impl Seen {
     pub fn count(&mut self, call: Call, before: &[u8], after: &[u8], dock: &Controller) {
         let (before, after) = (Image(before), Image(after));
         self.names.count(call, before, after);
-        match call {
-            Call::Word(word) if before.is_second() => self.second_kind.count(word, before, after, dock),
-            Call::Word(word) => self.count_in_first(word, before, after),
-            Call::Name(_) => {}
+        if let Call::Word(word) = call {
+            self.reads.count(word, before, after);
+            if before.is_second() {
+                self.second_kind.count(word, before, after, dock);
+            } else {
+                self.count_in_first(word, before, after);
+            }
         }
     }
 
@@ -61,7 +66,7 @@ impl Seen {
     /// Situations that never came.
     pub fn missing(&self) -> Vec<String> {
         let of_first = [self.presses.missing(), self.buttons.missing(), self.pulses.missing(), self.waits.missing()];
-        [of_first.concat(), self.names.missing(), self.second_kind.missing()].concat()
+        [of_first.concat(), self.names.missing(), self.reads.missing(), self.second_kind.missing()].concat()
     }
 }
 
@@ -72,6 +77,7 @@ impl std::ops::AddAssign for Seen {
         self.pulses += more.pulses;
         self.waits += more.waits;
         self.names += more.names;
+        self.reads += more.reads;
         self.second_kind += more.second_kind;
     }
 }
@@ -79,6 +85,6 @@ impl std::ops::AddAssign for Seen {
 impl fmt::Display for Seen {
     fn fmt(&self, f: &mut fmt::Formatter) -> fmt::Result {
         writeln!(f, "{}\n{}\n{}\n{}", self.presses, self.buttons, self.pulses, self.waits)?;
-        write!(f, "{}\n{}", self.names, self.second_kind)
+        write!(f, "{}\n{}\n{}", self.names, self.reads, self.second_kind)
     }
 }

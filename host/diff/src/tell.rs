@@ -2,8 +2,7 @@
 
 use crate::compare::{self, Mismatch, Question};
 use crate::counts::Counts;
-use crate::shrink;
-use trial::Call;
+use trial::{shrink, Call};
 
 /// How many calls of a long mismatching list are printed as they were; the shortened list is printed whole.
 const SHOWN_CALLS: usize = 400;
@@ -12,7 +11,7 @@ pub struct Failure(pub String);
 
 /// With the list as it was, and shortened as far as it still shows the mismatch.
 pub fn failure(seed: u64, counts: &Counts, mismatch: Mismatch, question: Question, list: &[Call]) -> Failure {
-    let short = shrink::shrink(list, |fewer| compare::ask(question, fewer).is_some());
+    let short = shrink(list, |fewer| compare::ask(question, fewer).is_some());
     let mut told = format!(
         "mismatch: seed {}, list {}, after {} words compared\n",
         seed,

@@ -19,6 +19,7 @@ pub struct Counts {
     pub batched: usize,
     pub readings: usize,
     pub outputs: usize,
+    pub held_bytes: usize,
     pub refused: usize,
     pub names: usize,
     pub seen: Seen,
@@ -30,6 +31,7 @@ impl std::ops::AddAssign for Counts {
         self.batched += more.batched;
         self.readings += more.readings;
         self.outputs += more.outputs;
+        self.held_bytes += more.held_bytes;
         self.refused += more.refused;
         self.names += more.names;
         self.seen += more.seen;
@@ -96,6 +98,7 @@ impl Walk {
             self.counts.seen.count(call, &before, held.bytes(), dock);
         }
         is_reached(call, held.bytes())?;
+        self.held_byte(held)?;
         Ok(1)
     }
 
@@ -115,7 +118,14 @@ impl Walk {
         };
         let count = held.batch(&words[..length.min(words.len())], room)?;
         self.counts.batched += count;
+        self.held_byte(held)?;
         Ok(count)
+    }
+
+    /// What an open read holds: after every call, so that a byte that is held too long or not long enough is seen.
+    fn held_byte(&mut self, held: &mut Held) -> Result<(), held::Mismatch> {
+        self.counts.held_bytes += 1;
+        held.held_byte()
     }
 
     /// The outputs and a register, and now and then all 256.
@@ -144,7 +154,7 @@ impl Walk {
     }
 
     fn every_call(&mut self, state: &[u8]) -> Result<(), held::Mismatch> {
-        self.counts.refused += 9;
+        self.counts.refused += 10;
         let mut held = Held::of_bytes(state);
         held.begin()?;
         held.name_kind(2)?;
@@ -154,6 +164,7 @@ impl Walk {
         held.batch(&[TICK; 2], Room::Short(1))?;
         held.batch(&TOO_MANY, Room::Short(usize::MAX))?;
         held.reading(0x10)?;
+        held.held_byte()?;
         held.outputs()
     }
 }

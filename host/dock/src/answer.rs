@@ -24,6 +24,15 @@ pub(crate) fn byte(answer: u32) -> Result<u8, Error> {
     u8::try_from(value).map_err(|_| Unnamed { what: "byte", number: u32::from(value) }.into())
 }
 
+/// The value of an answer that tells a byte, with bit 8 beside it, or that there is none.
+pub(crate) fn held(answer: u32) -> Result<Option<u8>, Error> {
+    match value(answer)?.to_be_bytes() {
+        [0, 0] => Ok(None),
+        [1, byte] => Ok(Some(byte)),
+        _ => Err(Unnamed { what: "held byte", number: answer }.into()),
+    }
+}
+
 /// What an event that was taken led to.
 #[derive(Clone, Copy, PartialEq, Eq, Debug)]
 pub struct Step {
@@ -110,5 +119,12 @@ mod tests {
         assert_eq!(numbers(0x0002_0000), Err(Error::Refused(Refusal::StrayBit)));
         assert_eq!(byte(0x0000_00FF), Ok(0xFF));
         assert_eq!(byte(0x0000_0100), Err(Error::Unnamed(Unnamed { what: "byte", number: 0x100 })));
+        assert_eq!(held(0x0000_0000), Ok(None));
+        assert_eq!(held(0x0000_0100), Ok(Some(0x00)));
+        assert_eq!(held(0x0000_01FF), Ok(Some(0xFF)));
+        assert_eq!(held(0x0001_0000), Err(Error::Refused(Refusal::UnfitState)));
+        for number in [0x0001, 0x0200, 0x0301] {
+            assert_eq!(held(number), Err(Error::Unnamed(Unnamed { what: "held byte", number })));
+        }
     }
 }

@@ -39,8 +39,8 @@ impl fmt::Display for Refusal {
             Refusal::UnfitState => "the bytes are no image of a fit state",
             Refusal::StrayBit => "a bit that must be 0 is set",
             Refusal::NotStarted => "no RESET has come yet",
-            Refusal::ShortAnswers => "fewer than four record bytes for each word",
-            Refusal::TooManyWords => "more than 16,384 words",
+            Refusal::ShortAnswers => "fewer than four record bytes for each word, or fewer places than samples",
+            Refusal::TooManyWords => "more than 16,384 words or samples",
             Refusal::WideStraps => "straps above 15",
             Refusal::NoSuchKind => "a number that no kind of controller has",
         })

@@ -18,10 +18,20 @@ extern "C" {
     ) -> u32;
     fn dock_reading(state: *const u8, state_len: u64, address: u8) -> u32;
     fn dock_outputs(state: *const u8, state_len: u64) -> u32;
+    fn dock_held_byte(state: *const u8, state_len: u64) -> u32;
     fn dock_name_kind(state: *mut u8, state_len: u64, kind: u8) -> u32;
     fn dock_replay(words: *const u16, words_len: u64, records: *mut u8, records_len: u64) -> u32;
     fn dock_pack(kind: u8, first: u16, second: u8) -> u32;
     fn dock_unpack(word: u16) -> u32;
+    fn dock_wire_begin(held: *mut u8, held_len: u64) -> u32;
+    fn dock_wire_listen(
+        held: *mut u8,
+        held_len: u64,
+        samples: *const u8,
+        samples_len: u64,
+        words: *mut u16,
+        words_len: u64,
+    ) -> u32;
 }
 
 /// A length has 64 bits in the interface, whatever a pointer has.
@@ -60,6 +70,11 @@ pub fn outputs(state: &[u8]) -> u32 {
     unsafe { dock_outputs(state.as_ptr(), len(state)) }
 }
 
+pub fn held_byte(state: &[u8]) -> u32 {
+    // SAFETY: the slice goes with its own length; the call only reads.
+    unsafe { dock_held_byte(state.as_ptr(), len(state)) }
+}
+
 pub fn name_kind(state: &mut [u8], kind: u8) -> u32 {
     // SAFETY: the slice is lent for writing, and its own length goes with it.
     unsafe { dock_name_kind(state.as_mut_ptr(), len(state), kind) }
@@ -78,4 +93,15 @@ pub fn pack(kind: u8, first: u16, second: u8) -> u32 {
 pub fn unpack(word: u16) -> u32 {
     // SAFETY: a number only.
     unsafe { dock_unpack(word) }
+}
+
+pub fn wire_begin(held: &mut [u8]) -> u32 {
+    // SAFETY: the slice is lent for writing, and its own length goes with it.
+    unsafe { dock_wire_begin(held.as_mut_ptr(), len(held)) }
+}
+
+pub fn wire_listen(held: &mut [u8], samples: &[u8], words: &mut [u16]) -> u32 {
+    let (samples_at, words_at) = (samples.as_ptr(), words.as_mut_ptr());
+    // SAFETY: three slices, each with its own length; the two lent for writing overlap nothing.
+    unsafe { dock_wire_listen(held.as_mut_ptr(), len(held), samples_at, len(samples), words_at, len(words)) }
 }

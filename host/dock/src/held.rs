@@ -1,6 +1,6 @@
 //! A controller that the program holds.
 
-use crate::answer::{byte, value};
+use crate::answer::{byte, held, value};
 use crate::{check_library, ffi, Error, Event, Record, Refusal, Step, STATE_BYTES};
 use crate::{Bay, Kind, Outputs, Register, SecondRegister, Status};
 
@@ -166,6 +166,26 @@ impl Dock {
     /// The nine outputs.
     pub fn outputs(&self) -> Result<Outputs, Error> {
         Ok(Outputs::try_from(value(ffi::outputs(&self.image))?)?)
+    }
+
+    /// The byte that an open read holds, which is the one that the next TAKE drives; `None` where no read is open. A
+    /// read is open from the own read byte until the next bus event, TIMEOUT or RESET; in the second kind a TAKE that
+    /// the host ACKs leaves it open, with the next byte. SDAT is driven from it before the TAKE is known.
+    ///
+    /// ```
+    /// use dock::{Bay, Dock, Event, Register, Reply};
+    ///
+    /// let mut dock = Dock::new()?;
+    /// dock.event(Event::Reset { straps: 0, levels: 0xBF, short_pulse: false })?; // a USB device in bay 0
+    /// for event in dock::read(0x90, Register::status(Bay::Zero)) {
+    ///     let held = dock.held_byte()?;
+    ///     let reply = dock.event(event)?.reply;
+    ///     assert_eq!(held, if reply == Reply::Driven(0x05) { Some(0x05) } else { None });
+    /// }
+    /// # Ok::<(), dock::Error>(())
+    /// ```
+    pub fn held_byte(&self) -> Result<Option<u8>, Error> {
+        held(ffi::held_byte(&self.image))
     }
 }
 

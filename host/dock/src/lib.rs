@@ -19,6 +19,8 @@
 //! It is a controller of the first [`Kind`], the DBC98C51, or of the second, the CDP1020 of older backplanes:
 //! [`Dock::name_kind`] says which, from the next RESET on. A whole history in one call ([`replay`]) is of the first.
 //!
+//! Where a processor has no bus cell, a [`Wire`] makes the bus events of samples of the two lines.
+//!
 //! Any words, any numbers, any bytes and slices of any length are taken: a call returns, and what it cannot do it
 //! refuses and changes nothing. No call panics. A number that this version has no name for is an error.
 //!
@@ -37,6 +39,7 @@ mod outputs;
 mod register;
 mod reply;
 mod version;
+mod wire;
 
 pub use answer::{records, Record, Step};
 pub use error::{Error, Refusal, Unnamed};
@@ -47,6 +50,7 @@ pub use outputs::Outputs;
 pub use register::{Bay, BayState, Register, SecondRegister, Status};
 pub use reply::Reply;
 pub use version::{check_library, version, Version, WRITTEN_FOR};
+pub use wire::Wire;
 
 use answer::{numbers, value};
 
@@ -58,6 +62,16 @@ pub const MOST_WORDS: usize = 16_384;
 
 /// The bytes of one record.
 pub const RECORD_BYTES: usize = 4;
+
+/// The bytes of the image of a wire cell's state.
+pub const WIRE_BYTES: usize = 7;
+
+/// The most samples of one call; a longer list is refused with [`Refusal::TooManyWords`].
+pub const MOST_SAMPLES: usize = 16_384;
+
+/// The lines in a sample.
+pub const SDAT: u8 = 1;
+pub const SCLK: u8 = 2;
 
 /// A whole history in one call: the words from a fresh controller, which is of the first kind, with records as [`Dock::batch`] writes them.
 ///

@@ -186,6 +186,50 @@ fn a_device_waits_as_the_register_says() {
     }
 }
 
+/// A state of this kind whose read of the register has come to its own read byte.
+fn reading(kind: Kind, register: u8) -> Dock {
+    let mut dock = Dock::new().unwrap();
+    dock.name_kind(kind).unwrap();
+    for word in [RESET, 0x0000, 0x4090, 0x4000 | u16::from(register), 0x0000] {
+        assert_eq!(dock.held_byte(), Ok(None));
+        dock.step(word).unwrap();
+    }
+    assert_eq!(dock.held_byte(), Ok(None));
+    assert_eq!(dock.step(0x4091).unwrap().reply, Reply::Ack);
+    dock
+}
+
+#[test]
+fn an_open_read_holds_its_byte() {
+    for (kind, status) in [(Kind::First, 0x10), (Kind::Second, 0x14)] {
+        assert_eq!(reading(kind, 0x02).held_byte(), Ok(Some(0x00)));
+        let mut dock = reading(kind, status);
+        for word in [0x80FF, TICK, TICK, TICK, TICK, TICK, TICK, TICK, TICK, TICK, TICK] {
+            dock.step(word).unwrap();
+            assert_eq!(dock.held_byte(), Ok(Some(0x05)));
+        }
+        assert_ne!(dock.reading(status), Ok(0x05));
+        for word in [0x0000, 0x2000, 0x4091, 0x6000, 0xE000, RESET] {
+            let mut ended = dock.clone();
+            ended.step(word).unwrap();
+            assert_eq!(ended.held_byte(), Ok(None));
+        }
+        assert_eq!(dock.step(0x6001).unwrap().reply, Reply::Driven(0x05));
+        assert_eq!(dock.held_byte(), Ok(if kind == Kind::Second { Some(0x00) } else { None }));
+    }
+}
+
+#[test]
+fn no_read_is_open_before_a_reset_or_in_the_other_kind() {
+    for (kind, other) in [(Kind::First, 1), (Kind::Second, 0)] {
+        let dock = reading(kind, 0x00);
+        assert!(dock.held_byte().unwrap().is_some());
+        for (place, byte) in [(1, 0), (2, other)] {
+            assert_eq!(Dock::from_bytes(&with(&dock, place, byte)).unwrap().held_byte(), Ok(None));
+        }
+    }
+}
+
 #[test]
 fn every_word_is_the_word_of_its_event() {
     let events = (0..=u16::MAX).filter_map(|word| match Event::try_from(word) {

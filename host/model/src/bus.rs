@@ -70,6 +70,15 @@ impl Controller {
         }
     }
 
+    /// The byte that an open read holds: fixed at the own read byte or, in the second kind, at a TAKE that the host
+    /// ACKed, for the next TAKE. A controller that has had no RESET has no read open.
+    pub fn held_byte(&self) -> Option<u8> {
+        match self.open_command() {
+            Command::Driving(value) | Command::Reading { value, .. } if self.started => Some(value),
+            _ => None,
+        }
+    }
+
     pub(crate) fn start(&mut self) {
         self.command = self.open_command().start();
     }

@@ -27,6 +27,7 @@ pub mod numbers;
 mod second;
 #[cfg(test)]
 mod unreached;
+mod wire;
 
 pub use answer::{Answer, Refusal, Reply, RECORD_BYTES};
 pub use batch::MOST_WORDS;
@@ -34,3 +35,4 @@ pub use controller::Controller;
 pub use event::{pack, unpack, Event};
 pub use image::{is_image, STATE_BYTES};
 pub use kind::Kind;
+pub use wire::{Wire, MOST_SAMPLES, WIRE_BYTES};

@@ -25,6 +25,11 @@ pub fn name_kind(dock: &mut Controller, number: u8) -> u32 {
     answer(dock.name_kind(number).map(|()| 0))
 }
 
+/// A byte that is held is told beside bit 8, so that 00h is not none.
+pub fn held_byte(dock: &Controller) -> u16 {
+    dock.held_byte().map_or(0, |byte| u16::from_be_bytes([1, byte]))
+}
+
 pub fn pack(kind: u8, first: u16, second: u8) -> u32 {
     answer(event(kind, first, second).ok_or(Refusal::StrayBit).and_then(crate::pack))
 }

@@ -325,6 +325,7 @@ fn before_a_reset_nothing_shows() {
     dock.command = Command::Reading { register: 0x14, value: 0x25 };
     let before = dock.clone();
     assert_eq!(dock.outputs(), 0);
+    assert_eq!(dock.held_byte(), None);
     (0..=u8::MAX).for_each(|address| assert_eq!(dock.reading(address), 0));
     assert_eq!(dock.step(take(true)).record(), [0x30, 0, 0, 0]);
     assert_eq!(dock, before);
@@ -344,6 +345,7 @@ fn progress_of_the_other_kind_counts_as_none() {
         for command in places_of(other) {
             let begun = Controller { command, ..started(kind) };
             let none = started(kind);
+            assert_eq!(begun.held_byte(), None);
             for word in [START, STOP, byte(0x04), byte(0x90), byte(0x91), take(true), take(false), TIMEOUT] {
                 let (mut begun, mut none) = (begun.clone(), none.clone());
                 assert_eq!(begun.step(word), none.step(word), "{:?}, {:04X}h", command, word);
@@ -365,6 +367,8 @@ fn progress_of_the_own_kind_goes_on() {
         let [writing, reading] = places_of(kind);
         let after = |command, word| Controller { command, ..started(kind) }.step(word).reply;
         assert_eq!(after(reading, take(true)), Reply::Driven(0x39));
+        let held = |command| Controller { command, ..started(kind) }.held_byte();
+        assert_eq!((held(reading), held(writing)), (Some(0x39), None));
         assert_eq!(after(writing, byte(0x04)), if kind == Kind::First { Reply::NoAck } else { Reply::Ack });
     }
 }

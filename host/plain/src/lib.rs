@@ -1,10 +1,12 @@
 //! Safe calls into the C controller of `plain.c`, which has the shape of the library's calls and is of the first kind
-//! alone.
+//! alone, and into the wire cell of `wire.c`.
 
 extern "C" {
     fn plain_replay(words: *const u16, words_len: usize, records: *mut u8, records_len: usize) -> u32;
     fn plain_reading(words: *const u16, words_len: usize, address: u8) -> u32;
     fn plain_outputs(words: *const u16, words_len: usize) -> u32;
+    fn plain_wire_begin(wire: *mut Wire);
+    fn plain_wire_listen(wire: *mut Wire, samples: *const u8, count: usize, words: *mut u16) -> usize;
 }
 
 /// Replays the words from a fresh controller and writes a record for each.
@@ -23,4 +25,31 @@ pub fn reading(words: &[u16], address: u8) -> u32 {
 pub fn outputs(words: &[u16]) -> u32 {
     // SAFETY: the pointer is good for the length; the call only reads.
     unsafe { plain_outputs(words.as_ptr(), words.len()) }
+}
+
+/// As the header has it.
+#[repr(C)]
+#[derive(Default)]
+pub struct Wire {
+    data: u8,
+    listens: u8,
+    count: u8,
+    value: u8,
+    low_run: u16,
+}
+
+impl Wire {
+    pub fn new() -> Wire {
+        let mut wire = Wire::default();
+        // SAFETY: the struct has the layout of the header's.
+        unsafe { plain_wire_begin(&mut wire) };
+        wire
+    }
+
+    /// Counts the words. There must be a place for each sample.
+    pub fn listen(&mut self, samples: &[u8], words: &mut [u16]) -> usize {
+        assert!(words.len() >= samples.len());
+        // SAFETY: both pointers are good for as many elements as there are samples.
+        unsafe { plain_wire_listen(self, samples.as_ptr(), samples.len(), words.as_mut_ptr()) }
+    }
 }

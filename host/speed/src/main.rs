@@ -8,6 +8,7 @@
 
 mod lists;
 mod sides;
+mod wire;
 
 use sides::{Side, BATCH, MODEL, MODEL_STEPS, PLAIN, REPLAY, SECOND, SIDES, STEPS};
 use std::process::ExitCode;
@@ -165,5 +166,6 @@ fn main() -> ExitCode {
     compare_speeds(repeats);
     compare_second_kind(repeats);
     check_linearity(repeats);
+    wire::compare(repeats);
     ExitCode::SUCCESS
 }

@@ -110,6 +110,12 @@ impl Held {
         self.agree(library, answer(model), || "dock_outputs".to_string())
     }
 
+    pub fn held_byte(&mut self) -> Result<(), Mismatch> {
+        let library = ffi::held_byte(lent(&mut self.bytes));
+        let model = self.model.as_ref().ok_or(Refusal::UnfitState).map(numbers::held_byte);
+        self.agree(library, answer(model), || "dock_held_byte".to_string())
+    }
+
     pub fn name_kind(&mut self, number: u8) -> Result<(), Mismatch> {
         let library = ffi::name_kind(lent(&mut self.bytes), number);
         let model = match &mut self.model {

@@ -5,8 +5,10 @@ mod call;
 pub mod held;
 pub mod lists;
 mod random;
+mod shrink;
 
 pub use bytes::{hex, pattern, Room};
 pub use call::Call;
 pub use held::{Held, Mismatch, TOO_MANY};
 pub use random::Random;
+pub use shrink::shrink;
