@@ -18,7 +18,6 @@ use Rattle.event.specs.declared.Unpacked.the-variants.{Accepted}
 use Rattle.machine.specs.Acts.{does, doesAll}
 use Rattle.machine.specs.InForce.{reading}
 use Rattle.machine.specs.declared.Machine.{Machine}
-use Rattle.machine.specs.declared.Act.{Act}
 use Rattle.machine.specs.declared.Act.the-variants.{Write, Read}
 use Rattle.bus.specs.Progress.{ownWrite, ownRead}
 use Rattle.bus.specs.declared.Reply.the-variants.{Driven}
@@ -31,10 +30,10 @@ use Rattle.dock.proofs.Run.{calls-append}
 use Rattle.dock.specs.declared.Controller.{Controller}
 use Rattle.machine.specs.Record.{fits}
 use Rattle.wire.specs.Record.{freshWire}
-use Rattle.wire.specs.Hear.{eventsOf, wordsOf}
+use Rattle.wire.specs.Hear.{wordsOf}
 use Rattle.wire.specs.Waves.{Wave}
 use Rattle.wire.proofs.Spoken.{words-unpack}
-use Rattle.wire.proofs.Theorems.{HeardAs, heard-as-spelled}
+use Rattle.wire.proofs.Theorems.{heard-as-spelled}
 use Rattle.demand.specs.Acts.{Happening, event, none, Line, silent, lineAfter, actsOf, actsAt, meets, hears, onBus, decided}
 use Rattle.demand.specs.Described.{goesOn, completes, decides}
 use Rattle.demand.specs.Commands.{firstGoesOn, firstCompletes, firstDecides}

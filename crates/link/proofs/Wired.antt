@@ -13,7 +13,6 @@ use denote.Enum.Declared.{tagOf}
 use Rattle.bay.proofs.Taut.{pick}
 use Rattle.bus.proofs.Cases.{among}
 use Rattle.wire.specs.Record.{fits}
-use Rattle.wire.specs.Hear.{wordsOf}
 use Rattle.wire.specs.Listen.{outcomeOf, stateBy, listenOf, placesBy, placesAfter}
 use Rattle.wire.specs.Outcome.{outcomeRefusal, outcomeCount}
 use Rattle.wire.specs.Image.{isImage, saved, wireIn}

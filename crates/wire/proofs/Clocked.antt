@@ -1,14 +1,11 @@
 -- What pulses of SCLK are heard as: each is a bit, nine of them a byte or a TAKE, and fewer nothing. Assumes nothing.
-use Prim.Native.Nat.{ℕ, suc, _+_, _*_, _/_, _%_, _<_, _≤_}
+use Prim.Native.Nat.{ℕ, _+_, _<_, _≤_}
 use native.Mathlib.Omega.{arith}
 use native.Mathlib.Decide.{decLt}
-use mathlib.Core.Path.{_≡_, refl, ap, sym, _∙_, subst}
-use mathlib.Core.Bool.{Bool, true, false, cond, not}
+use mathlib.Core.Path.{_≡_, subst}
+use mathlib.Core.Bool.{Bool, false}
 use mathlib.Core.List.{List, [], _∷_, _++_, append-nil}
-use lib.Dec.{eqb}
-use lib.ListN.{length}
-use borrow.Author.Tests.{lt-ltb, le-ltb}
-use Rattle.bits.specs.Bits.{bit, put}
+use Rattle.bits.specs.Bits.{bit}
 use Rattle.event.specs.declared.Event.{Event}
 use Rattle.wire.specs.Nine.{waiting, bitTo}
 use Rattle.wire.specs.Hear.{hearOf, eventsIn}

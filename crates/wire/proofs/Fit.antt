@@ -1,12 +1,12 @@
 -- Which held states are fit, in numbers, and that a fit one stays fit. Assumes nothing.
-use Prim.Native.Nat.{ℕ, _+_, _≤_, _<_}
+use Prim.Native.Nat.{ℕ, _+_, _≤_}
 use native.Mathlib.Omega.{arith}
-use mathlib.Core.Path.{_≡_, refl, sym, _∙_}
+use mathlib.Core.Path.{_≡_, refl}
 use mathlib.Core.Logic.{_↔_}
 use mathlib.Core.Bool.{Bool, true, false, cond, _&&_, false≢true}
 use mathlib.Core.List.{List, [], _∷_}
-use lib.Dec.{eqb, leb, ltb}
-use borrow.Author.Tests.{leb-true, leb-false, le-leb, ltb-true, ltb-false}
+use lib.Dec.{leb, ltb}
+use borrow.Author.Tests.{leb-true, le-leb, ltb-true}
 use Rattle.bits.specs.Bits.{bit}
 use Rattle.wire.specs.Levels.{linesAfter, shownBy, runAfter}
 use Rattle.wire.specs.Nine.{bitTo, tells, listens, collects, ninth, told}
@@ -14,7 +14,6 @@ use Rattle.wire.specs.Record.{freshWire, fits}
 use Rattle.wire.specs.Hear.{hearOf, after}
 use Rattle.wire.specs.declared.Wire.{Wire}
 use Rattle.wire.specs.declared.Ear.{Ear}
-use Rattle.wire.specs.declared.Told.{Told}
 use Rattle.wire.specs.declared.Shown.{Shown}
 use Rattle.wire.specs.declared.Shown.the-variants as shown
 use Rattle.wire.specs.declared.Given.the-variants.{Nothing}

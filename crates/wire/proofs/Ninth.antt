@@ -1,23 +1,21 @@
 -- Nine bits are a byte from the host, or a TAKE; eight are the host's byte already; fewer are nothing. Assumes nothing.
-use Prim.Native.Nat.{ℕ, zero, suc, _+_, _*_, _/_, _%_, _<_, _≤_}
+use Prim.Native.Nat.{ℕ, zero, suc, _+_, _/_, _%_, _<_, _≤_}
 use native.Mathlib.Omega.{arith}
 use mathlib.Core.Path.{_≡_, refl, ap, _∙_}
 use mathlib.Core.Bool.{Bool, true, false, cond, not}
-use mathlib.Core.List.{List, [], _∷_, _++_}
+use mathlib.Core.List.{List, [], _∷_}
 use lib.Dec.{eqb, ltb}
 use lib.ListN.{length}
 use borrow.Author.Tests.{lt-ltb}
-use Rattle.bits.specs.Bits.{bit, put}
-use Rattle.event.specs.declared.Event.{Event}
+use Rattle.bits.specs.Bits.{bit}
 use Rattle.event.specs.declared.Event.the-variants.{Byte, Take}
-use Rattle.wire.specs.Nine.{waiting, joined, bitTo, afterNinth}
+use Rattle.wire.specs.Nine.{waiting, joined, bitTo}
 use Rattle.wire.specs.Hear.{eventsIn}
 use Rattle.wire.specs.declared.Given.the-variants as given
 use Rattle.wire.specs.Waves.{eight, nine}
-use Rattle.wire.specs.declared.Ear.{Ear}
 use Rattle.wire.specs.declared.Listening.{Listening}
 use Rattle.wire.specs.declared.Listening.the-variants.{Nothing, FirstByte, Bytes, Takes}
-use Rattle.wire.proofs.Clocked.{earAfter, bitsGive, gives}
+use Rattle.wire.proofs.Clocked.{earAfter, bitsGive}
 
 -- ---- eight bits, most significant first, make the byte
 

@@ -1,14 +1,13 @@
 -- The words of a list of samples are those of its events, and each unpacks to its event, so that none is ever refused with 2. Assumes nothing.
-use Prim.Native.Nat.{ℕ, _+_, _*_, _%_, _<_}
+use Prim.Native.Nat.{ℕ, _+_, _<_}
 use native.Mathlib.Omega.{arith}
 use mathlib.Core.Path.{_≡_, refl, ap, _∙_}
 use mathlib.Core.Bool.{Bool, true, false, not, cond}
 use mathlib.Core.List.{List, [], _∷_, _++_, map}
 use lib.Dec.{ltb}
-use Rattle.event.specs.Words.{unpacked, packed, packWord, wordOf, strapsOf}
+use Rattle.event.specs.Words.{unpacked, packed, wordOf, strapsOf}
 use Rattle.event.specs.declared.Event.{Event}
 use Rattle.event.specs.declared.Event.the-variants as event
-use Rattle.event.specs.declared.Unpacked.{Unpacked}
 use Rattle.event.specs.declared.Unpacked.the-variants.{Accepted}
 use Rattle.event.proofs.Theorems.{by-kind}
 use Rattle.wire.specs.Levels.{shownBy}

@@ -2,15 +2,14 @@
 -- lines as it says, and what is listened for then matters no more, since a STOP, a START or a TIMEOUT comes next. Assumes nothing.
 use Prim.Native.Nat.{ℕ}
 use native.Mathlib.Omega.{arith}
-use mathlib.Core.Path.{_≡_, refl, ap, sym, _∙_}
+use mathlib.Core.Path.{_≡_, refl, ap, _∙_}
 use mathlib.Core.Bool.{Bool, true, false, cond}
 use mathlib.Core.List.{List, [], _∷_, _++_}
-use Rattle.bits.specs.Bits.{bit}
 use Rattle.event.specs.declared.Event.{Event}
 use Rattle.event.specs.declared.Event.the-variants as event
-use Rattle.wire.specs.Nine.{waiting, bitTo, listens, told}
+use Rattle.wire.specs.Nine.{waiting, bitTo, told}
 use Rattle.wire.specs.Hear.{eventsOf}
-use Rattle.wire.specs.Waves.{High, Low, Pulse, Sends, Clocks, Follows, Wave}
+use Rattle.wire.specs.Waves.{High, Pulse, Sends, Clocks, Follows, Wave}
 use Rattle.wire.specs.declared.Wire.{Wire}
 use Rattle.wire.specs.declared.Ear.{Ear}
 use Rattle.wire.specs.declared.Given.the-variants as given

@@ -1,7 +1,7 @@
 -- What is made of what the lines show (document 02, request 7).
 use Prim.Native.Nat.{ℕ, _+_, _*_, _%_}
 use mathlib.Core.Bool.{Bool, true, false, not, cond}
-use lib.Dec.{eqb, ltb}
+use lib.Dec.{ltb}
 use Rattle.bits.specs.Bits.{bit, put}
 use Rattle.event.specs.declared.Event.the-variants as event
 use Rattle.wire.specs.declared.Ear.{Ear}

@@ -1,5 +1,5 @@
 -- The held state (document 02, request 7).
-use Prim.Native.Nat.{ℕ, _+_}
+use Prim.Native.Nat.{_+_}
 use mathlib.Core.Bool.{Bool, true, _&&_}
 use lib.Dec.{leb}
 use Rattle.wire.specs.Levels.{MOST-LOW}

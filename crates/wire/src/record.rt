@@ -1,4 +1,4 @@
-// The held state: a fresh one, which are fit, and what one sample makes of it.
+// The held state: a fresh one, which ones are fit, and what one sample makes of it.
 ghost use mathlib.Core.Path.{_≡_};
 ghost use Rattle.wire.specs.Record.{freshWire, fits};
 ghost use Rattle.wire.specs.Hear.{hearOf};

@@ -1,10 +1,6 @@
 -- `link::wires::dock_wire_listen` meets its contract: what `hear` ensures, with its outcome as a number. Assumes nothing.
-use Prim.Native.Nat.{_≤_}
 use mathlib.Core.Path.{_∙_, ap}
-use lib.ListN.{length}
-use denote.Ref.{now}
 use borrow.Author.Needs.{needs}
-use Rattle.wire.specs.Outcome.{outcomeCount}
 use Rattle.link.specs.Wires.{listenedAs}
 use Rattle.link.proofs.Wired.{heard-most}
 use Rattle.link.proofs.wires.dock_wire_listen.Statement.{statement}

@@ -2,12 +2,10 @@
 -- them as they came; the measure is the number of samples left. Assumes nothing.
 use Prim.Native.Nat.{_-_}
 use native.Mathlib.Omega.{arith}
-use denote.Ref.{now}
-use lib.ListN.{length, getD, length-take, length-drop}
+use lib.ListN.{length, length-take, length-drop}
 use borrow.Author.Needs.{needs}
-use Rattle.wire.specs.Hear.{hearOf}
 use Rattle.wire.proofs.Cut.{at-most-one}
-use Rattle.wire.proofs.Loop.{Taken, none-taken, one-more, most, length-kept, word-fits, all-taken}
+use Rattle.wire.proofs.Loop.{Taken, none-taken, one-more, length-kept, word-fits, all-taken}
 use Rattle.wire.proofs.listen.run.Statement.{statement}
 use Rattle.wire.proofs.listen.run.Tie as tie
 
