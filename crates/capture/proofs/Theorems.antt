@@ -12,9 +12,10 @@ use Rattle.dock.specs.Run.{after, answersTo}
 use Rattle.dock.specs.declared.Controller.{Controller}
 use Rattle.wire.specs.Record.{freshWire}
 use Rattle.lines.proofs.Telling.{put-out, AsOnePiece, no-piece, piece-more}
+use Rattle.lines.specs.Words.{wordsIn as readAsWords}
 use Rattle.capture.specs.Rows.{Row, row, wordsIn, rowsOf, rowLine, linesOf, bytesOf, textOf}
 use Rattle.capture.specs.Pieces.{wordsText, captureGiven, textFed, captureFed, fedOf, headerFor, openingOf, begunOf, captureRows, captureText}
-use Rattle.capture.specs.Examples.{readAsWords, linesWith}
+use Rattle.capture.specs.Examples.{linesWith}
 use Rattle.capture.specs.declared.rows.Form.{Form}
 use Rattle.capture.specs.declared.rows.Form.the-variants.{Lines, Words}
 use Rattle.capture.specs.declared.pieces.Capture.{Capture}

@@ -1,18 +1,11 @@
 -- What the definitions come to in single cases (document 02, request 7), and what a capture's text is read as.
-use Prim.Native.Nat.{ℕ, _+_, _*_}
+use Prim.Native.Nat.{ℕ}
 use mathlib.Core.List.{List, [], _∷_, _++_}
 use Rattle.dock.specs.declared.Answer.{Answer}
 use Rattle.lines.specs.Text.{characters}
 use Rattle.capture.specs.Rows.{Row, rowLine}
 use Rattle.capture.specs.declared.arguments.Wish.{Wish}
 use Rattle.capture.specs.declared.arguments.Wish.the-variants.{Words, Reset, NoReset, Unclear}
-
--- ---- bare words as the trace program reads them: high byte first
-
-unfoldable pub readAsWords : List ℕ → List ℕ
-readAsWords [] = []
-readAsWords (b ∷ []) = []
-readAsWords (high ∷ (low ∷ rest)) = (high * 256 + low) ∷ readAsWords rest
 
 -- ---- rows with the answers to their words
 

@@ -2,3 +2,4 @@ pub mod Written
 pub mod Telling
 pub mod Sign
 pub mod Determined
+pub mod Pairs

@@ -1,30 +1,19 @@
 -- The text of a trace (document 01, "Bench examples"): the program starts from a fresh state and reads words, high byte first; it
 -- prints the header, then a line for each word; a lone last byte prints `odd`. Bytes and characters are their numbers.
-use Prim.Native.Nat.{ℕ, _+_, _*_}
+use Prim.Native.Nat.{ℕ}
 use mathlib.Core.List.{List, [], _∷_, _++_}
 use Rattle.dock.specs.Record.{freshController}
 use Rattle.dock.specs.Step.{stepOf}
 use Rattle.dock.specs.declared.Controller.{Controller}
 use Rattle.lines.specs.Line.{lineOf}
 use Rattle.lines.specs.Text.{characters}
+use Rattle.lines.specs.Words.{wordsIn, loneIn}
 
 unfoldable pub header : List ℕ
 header = characters "word ref rep byte out\n"
 
 unfoldable pub odd : List ℕ
 odd = characters "odd\n"
-
--- The words in a list of bytes, high byte first.
-unfoldable pub wordsIn : List ℕ → List ℕ
-wordsIn [] = []
-wordsIn (b ∷ []) = []
-wordsIn (high ∷ (low ∷ rest)) = (high * 256 + low) ∷ wordsIn rest
-
--- The lone last byte, where there is one.
-unfoldable pub loneIn : List ℕ → List ℕ
-loneIn [] = []
-loneIn (b ∷ []) = b ∷ []
-loneIn (high ∷ (low ∷ rest)) = loneIn rest
 
 -- A line for each word in order, from a state.
 unfoldable pub linesOf : Controller → List ℕ → List ℕ

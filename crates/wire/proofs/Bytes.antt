@@ -4,7 +4,7 @@ use Prim.Native.Nat.{ℕ, zero, suc, _/_, _%_, _<_}
 use native.Mathlib.Omega.{arith}
 use mathlib.Core.Path.{_≡_, refl, ap}
 use mathlib.Core.Bool.{Bool, true, false, _&&_, cond, true≢false, false≢true}
-use mathlib.Core.List.{List, [], _∷_}
+use mathlib.Core.List.{List, [], _∷_, map}
 use lib.Dec.{eqb, leb}
 use lib.ListN.{length, getD}
 use borrow.Author.Tests.{eqb-true, leb-true}
@@ -138,3 +138,15 @@ bytes-back bytes h l = go bytes (parts bytes h) l
         low : wide hi lo % 256 ≡ lo
         low = omega (arith, l)
     go (v ∷ d ∷ n ∷ b ∷ x ∷ hi ∷ lo ∷ more ∷ rest) p l = absurd (omega (arith, p .long))
+
+-- ---- which byte is which, and what each number of what is listened for means: one held state, written out
+
+pub record Places : Type 0 where
+  pub one :
+      saved (record { lines = record { sdat = true; low = 17501 }; ear = record { listening = Takes; bits = 8; value = 0x91 } })
+      ≡ 0x01 ∷ 0x01 ∷ 0x03 ∷ 0x08 ∷ 0x91 ∷ 0x44 ∷ 0x5D ∷ []
+  pub listenings : map listeningNumber (Nothing ∷ FirstByte ∷ Bytes ∷ Takes ∷ []) ≡ 0 ∷ 1 ∷ 2 ∷ 3 ∷ []
+
+pub places : Places
+unfolding saved
+places = record { one = refl; listenings = refl }

@@ -27,7 +27,7 @@ pub const VALUE: usize = 4;
 // The low run: its high byte, and the low one after it.
 pub const LOW: usize = 5;
 
-// The number of what is listened for.
+// The last number of what is listened for.
 const LAST_LISTENING: u8 = 3;
 
 impl Listening {
