@@ -6,6 +6,7 @@ use native.Mathlib.Nat.{add-assoc, add-zero}
 use mathlib.Core.Path.{_≡_, _∙_}
 use mathlib.Core.List.{List, [], _∷_, _++_, append-nil}
 use lib.ListN.{length, length-append}
+use Rattle.pairs.specs.Pairs.{bytesOf}
 use Rattle.wire.specs.Hear.{hearOf, spelled, after as heardBy}
 use Rattle.wire.proofs.Cut.{after-append as heard-append}
 use Rattle.dock.specs.Step.{stepOf}
@@ -13,7 +14,7 @@ use Rattle.dock.specs.declared.Stepped.{Stepped}
 use Rattle.dock.specs.Run.{after}
 use Rattle.dock.proofs.Run.{after-append}
 use Rattle.lines.specs.Text.{written}
-use Rattle.capture.specs.Rows.{numbered, wordsIn, tickAt, wordsAt, rowsOf, rowLine, linesOf, bytesOf, textOf}
+use Rattle.capture.specs.Rows.{numbered, wordsIn, tickAt, wordsAt, rowsOf, rowLine, linesOf, textOf}
 use Rattle.capture.specs.Pieces.{wordsText, captureGiven, givenOf, rowsFed, textFed, captureFed}
 use Rattle.capture.specs.declared.rows.Form.{Form}
 use Rattle.capture.specs.declared.rows.Form.the-variants.{Lines, Words}

@@ -9,6 +9,7 @@ use mathlib.Core.List.{List, [], _∷_, map}
 use lib.ListN.{length}
 use lib.Dec.{eqb}
 use borrow.Author.Tests.{eqb-true}
+use Rattle.pairs.specs.Pairs.{bytesOf}
 use Rattle.event.specs.Words.{wordOf, isResetWord, packed, strapsOf, unpacked}
 use Rattle.wire.specs.Record.{freshWire}
 use Rattle.wire.specs.Hear.{hearOf}
@@ -31,7 +32,7 @@ use Rattle.lines.specs.Line.{lineOf}
 use Rattle.lines.specs.Text.{characters}
 use Rattle.script.specs.Arguments.{digitOf, isOctet, octetOf, wordOf as typedWord}
 use Rattle.capture.specs.Number.{decimalIn, decimalOf}
-use Rattle.capture.specs.Rows.{row, tickAt, wordsAt, rowsOf, rowLine, linesOf, bytesOf, textOf}
+use Rattle.capture.specs.Rows.{row, tickAt, wordsAt, rowsOf, rowLine, linesOf, textOf}
 use Rattle.capture.specs.Pieces.{headerFor, captureRows, captureText}
 use Rattle.capture.specs.Arguments.{asksWords, wishOf}
 use Rattle.capture.specs.Examples.{startSamples, startLines, startWords, Case, arguments}

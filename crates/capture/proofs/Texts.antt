@@ -8,6 +8,8 @@ use mathlib.Core.Bool.{Bool, true, false, cond}
 use mathlib.Core.List.{List, [], _∷_, _++_, append-assoc}
 use lib.ListN.{length, length-append}
 use lib.Dec.{eqb}
+use Rattle.pairs.specs.Pairs.{bytesOf}
+use Rattle.pairs.proofs.Pairs.{bytes-append}
 use Rattle.event.specs.Words.{wordOf}
 use Rattle.event.specs.declared.Event.the-variants.{Tick}
 use Rattle.wire.specs.Hear.{hearOf, spelled, after as heardBy}
@@ -20,7 +22,7 @@ use Rattle.dock.specs.declared.Controller.{Controller}
 use Rattle.dock.specs.declared.Answer.{Answer}
 use Rattle.lines.specs.Line.{lineOf}
 use Rattle.capture.specs.Number.{decimalOf}
-use Rattle.capture.specs.Rows.{Row, row, numbered, wordsIn, TICK-SAMPLES, tickAt, wordsAt, rowsOf, rowLine, linesOf, bytesOf, textOf}
+use Rattle.capture.specs.Rows.{Row, row, numbered, wordsIn, TICK-SAMPLES, tickAt, wordsAt, rowsOf, rowLine, linesOf, textOf}
 use Rattle.capture.specs.declared.rows.Form.{Form}
 use Rattle.capture.specs.declared.rows.Form.the-variants.{Lines, Words}
 use Rattle.capture.proofs.Digits.{decimal-most}
@@ -90,11 +92,6 @@ lines-append s (x ∷ xs) ys =
     let first = rowLine (x .number) (x .word) (stepOf s (x .word) .answer) in
     let next = stepOf s (x .word) .controller in
     ap (λ l. first ++ l) (lines-append next xs ys) ∙ sym (append-assoc first (linesOf next xs) (linesOf (after next (wordsIn xs)) ys))
-
-bytes-append : (vs ws : List ℕ) → bytesOf (vs ++ ws) ≡ bytesOf vs ++ bytesOf ws
-unfolding bytesOf
-bytes-append [] ws = refl
-bytes-append (v ∷ vs) ws = rw (bytes-append vs ws)
 
 pub text-append : (f : Form) (s : Controller) (xs ys : List Row) → textOf f s (xs ++ ys) ≡ textOf f s xs ++ textOf f (after s (wordsIn xs)) ys
 unfolding textOf

@@ -1,7 +1,6 @@
 -- The text of a capture (document 02, request 7), of what the compiled functions return: however the samples are cut into pieces, what
 -- they put out, joined, is the text of the whole capture; and its two forms tell the same words. Assumes nothing.
-use Prim.Native.Nat.{ℕ, _+_, _*_, _/_, _%_}
-use native.Mathlib.Omega.{arith}
+use Prim.Native.Nat.{ℕ, _+_}
 use mathlib.Core.Path.{_≡_, refl, ap, sym, _∙_}
 use mathlib.Core.List.{List, [], _∷_, _++_, append-assoc, flatten}
 use lib.ListN.{length, take}
@@ -12,8 +11,9 @@ use Rattle.dock.specs.Run.{after, answersTo}
 use Rattle.dock.specs.declared.Controller.{Controller}
 use Rattle.wire.specs.Record.{freshWire}
 use Rattle.lines.proofs.Telling.{put-out, AsOnePiece, no-piece, piece-more}
-use Rattle.lines.specs.Words.{wordsIn as readAsWords}
-use Rattle.capture.specs.Rows.{Row, row, wordsIn, rowsOf, rowLine, linesOf, bytesOf, textOf}
+use Rattle.pairs.specs.Pairs.{wordsIn as readAsWords, bytesOf}
+use Rattle.pairs.proofs.Pairs.{read-again}
+use Rattle.capture.specs.Rows.{Row, row, wordsIn, rowsOf, rowLine, linesOf, textOf}
 use Rattle.capture.specs.Pieces.{wordsText, captureGiven, textFed, captureFed, fedOf, headerFor, openingOf, begunOf, captureRows, captureText}
 use Rattle.capture.specs.Examples.{linesWith}
 use Rattle.capture.specs.declared.rows.Form.{Form}
@@ -79,11 +79,6 @@ cut-anywhere {f} {reset} {pieces} called = as-one-piece called .text ∙ whole f
 pub bare-words : (reset : ℕ) (samples : List ℕ) → captureText Words reset samples ≡ bytesOf (wordsIn (captureRows reset samples))
 unfolding captureText headerFor textOf
 bare-words reset samples = refl
-
-read-again : (ws : List ℕ) → readAsWords (bytesOf ws) ≡ ws
-unfolding readAsWords bytesOf
-read-again [] = refl
-read-again (w ∷ ws) = let same : w / 256 * 256 + w % 256 ≡ w = omega arith in rw (same, read-again ws)
 
 lines-with : (s : Controller) (rows : List Row) → linesOf s rows ≡ linesWith rows (answersTo s (wordsIn rows))
 unfolding linesOf linesWith answersTo

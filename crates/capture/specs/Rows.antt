@@ -1,8 +1,9 @@
 -- What a capture gives (document 02, request 7): words, each with the number of the last sample heard, and their text.
-use Prim.Native.Nat.{ℕ, _+_, _/_, _%_}
+use Prim.Native.Nat.{ℕ, _+_, _%_}
 use mathlib.Core.Bool.{cond}
 use mathlib.Core.List.{List, [], _∷_, _++_, map}
 use lib.Dec.{eqb}
+use Rattle.pairs.specs.Pairs.{bytesOf}
 use Rattle.event.specs.Words.{wordOf}
 use Rattle.event.specs.declared.Event.the-variants.{Tick}
 use Rattle.wire.specs.Hear.{hearOf, spelled}
@@ -59,11 +60,6 @@ rowLine n w a = decimalOf n ++ (space ∷ lineOf w a)
 unfoldable pub linesOf : Controller → List Row → List ℕ
 linesOf s [] = []
 linesOf s (r ∷ rs) = rowLine (r .number) (r .word) (stepOf s (r .word) .answer) ++ linesOf (stepOf s (r .word) .controller) rs
-
--- A bare word: two bytes, high first.
-unfoldable pub bytesOf : List ℕ → List ℕ
-bytesOf [] = []
-bytesOf (w ∷ ws) = w / 256 ∷ w % 256 ∷ bytesOf ws
 
 unfoldable pub textOf : Form → Controller → List Row → List ℕ
 textOf Lines s rows = linesOf s rows

@@ -1,6 +1,6 @@
 -- A state and its image. `load (save s)` is `s` for every record that the code's types can hold, fit or not; what was loaded saves as
 -- the bytes it came from, so that a state has one image. Assumes nothing.
-use Prim.Native.Nat.{ℕ, zero, suc, _+_, _-_, _/_, _%_, _<_}
+use Prim.Native.Nat.{ℕ, zero, suc, _+_, _-_}
 use native.Mathlib.Omega.{arith}
 use mathlib.Core.Path.{_≡_, refl, ap, sym, _∙_}
 use mathlib.Core.Logic.{_↔_}
@@ -10,6 +10,7 @@ use lib.Dec.{eqb, leb}
 use lib.ListN.{length, getD, take, drop}
 use lib.Seq.{getD-drop}
 use borrow.Author.Tests.{leb-true, lt-leb, eqb-true}
+use Rattle.pairs.proofs.Pairs.{word-back, high-back, low-back}
 use Rattle.kind.proofs.Laws.{by-second, second-by}
 use Rattle.second.specs.declared.Second.{Second}
 use Rattle.bay.specs.Record.{noBay}
@@ -22,7 +23,7 @@ use Rattle.dock.specs.declared.Controller.{Controller}
 use Rattle.machine.proofs.Bays.{each}
 use Rattle.image.specs.Layout.{LAYOUT, BYTES, FLAGS, NUMBERS, PROGRESS}
 use Rattle.image.specs.Save.{flagByte, bayFlags, bayNumbers, secondFlags, secondNumbers, flagsOf, numbersOf, progressBytes, saved}
-use Rattle.image.specs.Load.{byteAt, flagBytes, numbersIn, allFlags, firstOver, whole, progressVerdict, sizedVerdict, verdictOn, isImage, isSet, wide, bayBy, secondBy, machineBy, progressBy, stateIn, loadOf}
+use Rattle.image.specs.Load.{byteAt, flagBytes, numbersIn, allFlags, firstOver, whole, progressVerdict, sizedVerdict, verdictOn, isImage, isSet, bayBy, secondBy, machineBy, progressBy, stateIn, loadOf}
 use Rattle.image.specs.Shape.{ShapedBay, ShapedSecond, Shaped, Octets}
 use Rattle.image.specs.declared.Verdict.the-variants.{Whole, WrongLength, UnknownVersion, NotAFlag, NotUsed}
 use Rattle.image.proofs.Elements.{by-elements}
@@ -49,18 +50,14 @@ module _ {A : Type 0} (d : A) where
   two-are : (xs : List A) → length xs ≡ 2 → getD xs 0 d ∷ getD xs 1 d ∷ [] ≡ xs
   two-are = by-elements d 2 (λ xs. getD xs 0 d ∷ getD xs 1 d ∷ [] ≡ xs) (λ f. refl)
 
--- A number is its two bytes.
-wide-is : (n : ℕ) → wide (n / 256) (n % 256) ≡ n
-wide-is n = omega arith
-
 bay-back : (b : Bay) → ShapedBay b → bayBy (bayFlags b) (bayNumbers b) ≡ b
 bay-back b h =
     rw (
       three-are false (b .levels) (h .levels),
       three-are false (b .accepted) (h .accepted),
       three-are 0 (b .counts) (h .counts),
-      wide-is (b .pulse),
-      wide-is (b .wait),
+      word-back (b .pulse),
+      word-back (b .wait),
     )
     refl
 
@@ -214,25 +211,18 @@ progress-bytes-back (suc (suc (suc (suc (suc (suc (suc (suc (suc n))))))))) a b 
 flags-of : (fs : List Bool) (ns : List ℕ) → length fs ≡ NUMBERS - FLAGS → flagsOf (machineBy fs ns) ≡ fs
 flags-of fs ns = by-elements false (NUMBERS - FLAGS) (λ fs. flagsOf (machineBy fs ns) ≡ fs) (λ f. rw (second-by (f 1), second-by (f 2)) refl) fs
 
--- Two bytes are those of their number, since the low one is below 256.
-high-is : (h l : ℕ) → l < 256 → wide h l / 256 ≡ h
-high-is h l small = omega (arith, small)
-
-low-is : (h l : ℕ) → l < 256 → wide h l % 256 ≡ l
-low-is h l small = omega (arith, small)
-
 numbers-of : (fs : List Bool) (ns : List ℕ) → length ns ≡ PROGRESS - NUMBERS → Octets ns → numbersOf (machineBy fs ns) ≡ ns
 numbers-of fs ns =
     by-elements 0 (PROGRESS - NUMBERS) (λ ns. Octets ns → numbersOf (machineBy fs ns) ≡ ns)
     (λ f o. rw (
-      high-is (f 17) (f 18) (o 18),
-      low-is (f 17) (f 18) (o 18),
-      high-is (f 19) (f 20) (o 20),
-      low-is (f 19) (f 20) (o 20),
-      high-is (f 26) (f 27) (o 27),
-      low-is (f 26) (f 27) (o 27),
-      high-is (f 28) (f 29) (o 29),
-      low-is (f 28) (f 29) (o 29),
+      high-back (f 17) (f 18) (o 18),
+      low-back (f 17) (f 18) (o 18),
+      high-back (f 19) (f 20) (o 20),
+      low-back (f 19) (f 20) (o 20),
+      high-back (f 26) (f 27) (o 27),
+      low-back (f 26) (f 27) (o 27),
+      high-back (f 28) (f 29) (o 29),
+      low-back (f 28) (f 29) (o 29),
     )
     refl)
     ns

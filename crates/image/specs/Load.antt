@@ -1,9 +1,10 @@
 -- What bytes are: no image, or the image of a state, fit or not.
-use Prim.Native.Nat.{ℕ, _+_, _-_, _*_}
+use Prim.Native.Nat.{ℕ, _+_, _-_}
 use mathlib.Core.Bool.{Bool, true, false, cond, _&&_, _||_}
 use mathlib.Core.List.{List, [], _∷_, map}
 use lib.Dec.{eqb, leb}
 use lib.ListN.{length, getD, take, drop}
+use Rattle.pairs.specs.Pairs.{wide}
 use Rattle.bus.specs.declared.Progress.{Progress}
 use Rattle.bus.specs.declared.Progress.the-variants.{Idle, Opened, Addressed, Register, Data, Again, Reading, Writing, Sending}
 use Rattle.kind.specs.Kind.{kindBy}
@@ -76,10 +77,6 @@ isImage bytes = whole (verdictOn bytes)
 
 abbrev pub isSet : ℕ → Bool
 isSet b = eqb b 1
-
--- A number of two bytes, the high one first.
-abbrev pub wide : ℕ → ℕ → ℕ
-wide high low = high * 256 + low
 
 -- A bay from its fourteen flags and its nine numbers.
 abbrev pub bayBy : List Bool → List ℕ → Bay

@@ -4,7 +4,7 @@ ghost use mathlib.Core.List.{map};
 ghost use lib.ListN.{length};
 ghost use Prim.Native.Nat.{_≤_};
 ghost use Rattle.image.specs.Layout.{BYTES};
-ghost use Rattle.image.specs.Load.{isSet, wide, bayBy, secondBy, machineIn, progressBy, allFlags, firstOver, progressVerdict, sizedVerdict, loadSized, loadOf};
+ghost use Rattle.image.specs.Load.{isSet, bayBy, secondBy, machineIn, progressBy, allFlags, firstOver, progressVerdict, sizedVerdict, loadSized, loadOf};
 use crate::Loaded;
 use crate::Verdict;
 use bay::Bay;
@@ -14,14 +14,8 @@ use dock::Controller;
 use kind::Kind;
 use machine::Machine;
 use machine::Shared;
+use pairs::wide;
 use second::Second;
-
-// A number of two bytes.
-fn wide(high: u8, low: u8) -> u16
-    ensures { λ r. ⌜ r ≡ wide high low ⌝ }
-{
-    high as u16 * 256 + low as u16
-}
 
 fn bay_from(flags: &[u8], numbers: &[u8]) -> Bay
     requires { ⌜ length (now flags) ≡ 14 ⌝ }

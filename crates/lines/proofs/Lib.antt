@@ -2,4 +2,3 @@ pub mod Written
 pub mod Telling
 pub mod Sign
 pub mod Determined
-pub mod Pairs

@@ -1,4 +1,3 @@
 pub mod Line
 pub mod Reads
 pub mod Text
-pub mod Words

@@ -15,7 +15,8 @@ use Rattle.bay.specs.Record.{bayFit}
 use Rattle.machine.specs.Record.{mostPulse, mostWait, bayIn, fits}
 use Rattle.machine.specs.declared.Machine.{Machine}
 use Rattle.image.specs.Layout.{BYTES}
-use Rattle.image.specs.Load.{byteAt, wide, machineIn}
+use Rattle.pairs.specs.Pairs.{wide}
+use Rattle.image.specs.Load.{byteAt, machineIn}
 use Rattle.image.proofs.Elements.{by-elements}
 use Rattle.paste.specs.Ranges.{RANGED, rangedOf, places, lasts, lastsWith, firstOut, outAt, outOf}
 

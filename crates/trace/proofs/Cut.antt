@@ -7,7 +7,7 @@ use lib.ListN.{length, length-append}
 use Rattle.dock.specs.Run.{after}
 use Rattle.dock.specs.declared.Controller.{Controller}
 use Rattle.dock.proofs.Run.{after-append}
-use Rattle.lines.specs.Words.{wordsIn, loneIn}
+use Rattle.pairs.specs.Pairs.{wordsIn, loneIn}
 use Rattle.trace.specs.Text.{linesOf}
 use Rattle.trace.specs.Pieces.{held, waitingFor, joined, linesFed, traceFed}
 use Rattle.trace.specs.declared.pieces.Waiting.{Waiting}

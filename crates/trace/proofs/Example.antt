@@ -20,7 +20,7 @@ use Rattle.dock.specs.Events.{stopDeed, readAt, byteHeard, byteAt, takeKnown, t
 use Rattle.dock.specs.Step.{takes, stepOf}
 use Rattle.hex.specs.Digit.{digitFor}
 use Rattle.lines.specs.Line.{lineOf}
-use Rattle.lines.specs.Words.{wordsIn, loneIn}
+use Rattle.pairs.specs.Pairs.{wordsIn, loneIn}
 use Rattle.trace.specs.Text.{header, odd, linesOf, oddFor, textOf}
 use Rattle.trace.specs.Example.{exampleInput, exampleText, loneInput, loneText}
 

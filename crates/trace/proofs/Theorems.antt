@@ -7,7 +7,7 @@ use mathlib.Core.List.{List, [], _∷_, _++_, append-assoc, flatten}
 use lib.ListN.{length, take}
 use denote.Ref.{RefT, now}
 use Rattle.dock.specs.Record.{freshController}
-use Rattle.lines.specs.Words.{wordsIn}
+use Rattle.pairs.specs.Pairs.{wordsIn}
 use Rattle.trace.specs.Text.{header, linesOf, textOf}
 use Rattle.lines.proofs.Telling.{put-out, flatten-one, AsOnePiece, no-piece, piece-more}
 use Rattle.trace.specs.Pieces.{linesFed, traceFed, fedOf, begun, endingOf}

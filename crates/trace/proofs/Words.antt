@@ -10,7 +10,7 @@ use Rattle.dock.specs.Run.{after}
 use Rattle.dock.specs.declared.Controller.{Controller}
 use Rattle.dock.specs.declared.Answer.{Answer}
 use Rattle.lines.specs.Line.{lineOf}
-use Rattle.lines.specs.Words.{wordsIn, loneIn}
+use Rattle.pairs.specs.Pairs.{wordsIn, loneIn}
 use Rattle.trace.specs.Text.{linesOf}
 
 pub words-append : (xs ys : List ℕ) → wordsIn (xs ++ ys) ≡ wordsIn xs ++ wordsIn (loneIn xs ++ ys)

@@ -4,7 +4,7 @@ use mathlib.Core.List.{List, [], _∷_, _++_}
 use lib.ListN.{length}
 use Rattle.dock.specs.Record.{freshController}
 use Rattle.dock.specs.Run.{after}
-use Rattle.lines.specs.Words.{wordsIn, loneIn}
+use Rattle.pairs.specs.Pairs.{wordsIn, loneIn}
 use Rattle.trace.specs.Text.{header, linesOf, oddFor}
 use Rattle.trace.specs.declared.pieces.Waiting.{Waiting}
 use Rattle.trace.specs.declared.pieces.Waiting.the-variants.{Nothing, High}

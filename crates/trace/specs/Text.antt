@@ -7,7 +7,7 @@ use Rattle.dock.specs.Step.{stepOf}
 use Rattle.dock.specs.declared.Controller.{Controller}
 use Rattle.lines.specs.Line.{lineOf}
 use Rattle.lines.specs.Text.{characters}
-use Rattle.lines.specs.Words.{wordsIn, loneIn}
+use Rattle.pairs.specs.Pairs.{wordsIn, loneIn}
 
 unfoldable pub header : List ℕ
 header = characters "word ref rep byte out\n"

@@ -1,6 +1,6 @@
 -- The held state as bytes: saved and loaded again it is the same, and bytes that are an image are the image of exactly one held state.
 -- Assumes nothing.
-use Prim.Native.Nat.{ℕ, zero, suc, _/_, _%_, _<_}
+use Prim.Native.Nat.{ℕ, zero, suc, _<_}
 use native.Mathlib.Omega.{arith}
 use mathlib.Core.Path.{_≡_, refl, ap}
 use mathlib.Core.Bool.{Bool, true, false, _&&_, cond, true≢false, false≢true}
@@ -8,8 +8,9 @@ use mathlib.Core.List.{List, [], _∷_, map}
 use lib.Dec.{eqb, leb}
 use lib.ListN.{length, getD}
 use borrow.Author.Tests.{eqb-true, leb-true}
+use Rattle.pairs.proofs.Pairs.{word-back, high-back, low-back}
 use Rattle.bits.specs.Bits.{put}
-use Rattle.wire.specs.Image.{LAYOUT, BYTES, listeningNumber, listeningBy, wide, saved, isImage, wireIn, loadOf}
+use Rattle.wire.specs.Image.{LAYOUT, BYTES, listeningNumber, listeningBy, saved, isImage, wireIn, loadOf}
 use Rattle.wire.specs.declared.Wire.{Wire}
 use Rattle.wire.specs.declared.Lines.{Lines}
 use Rattle.wire.specs.declared.Ear.{Ear}
@@ -79,10 +80,7 @@ unfolding saved wireIn
 state-back w = go (w .lines) (w .ear)
   where
     go : (l : Lines) (e : Ear) → wireIn (saved (record { lines = l; ear = e })) ≡ record { lines = l; ear = e }
-    go l e = rw (sdat-back (l .sdat), listening-back (e .listening), low-back (l .low))
-      where
-        low-back : (n : ℕ) → wide (n / 256) (n % 256) ≡ n
-        low-back n = omega arith
+    go l e = rw (sdat-back (l .sdat), listening-back (e .listening), word-back (l .low))
 
 -- ---- bytes that are an image, loaded and saved
 
@@ -130,13 +128,7 @@ bytes-back bytes h l = go bytes (parts bytes h) l
     go (v ∷ d ∷ n ∷ b ∷ x ∷ []) p l = absurd (omega (arith, p .long))
     go (v ∷ d ∷ n ∷ b ∷ x ∷ hi ∷ []) p l = absurd (omega (arith, p .long))
     go (v ∷ d ∷ n ∷ b ∷ x ∷ hi ∷ lo ∷ []) p l =
-        rw (p .version, level-back d (p .level), number-back n (p .listened), high, low)
-      where
-        high : wide hi lo / 256 ≡ hi
-        high = omega (arith, l)
-
-        low : wide hi lo % 256 ≡ lo
-        low = omega (arith, l)
+        rw (p .version, level-back d (p .level), number-back n (p .listened), high-back hi lo l, low-back hi lo l)
     go (v ∷ d ∷ n ∷ b ∷ x ∷ hi ∷ lo ∷ more ∷ rest) p l = absurd (omega (arith, p .long))
 
 -- ---- which byte is which, and what each number of what is listened for means: one held state, written out

@@ -1,10 +1,11 @@
 -- The held state as bytes: the layout's version, SDAT, what is listened for, the bits that have come, their value, and the low run, high
 -- byte first.
-use Prim.Native.Nat.{ℕ, _+_, _*_, _/_, _%_}
+use Prim.Native.Nat.{ℕ, _/_, _%_}
 use mathlib.Core.Bool.{Bool, cond, _&&_}
 use mathlib.Core.List.{List, [], _∷_}
 use lib.Dec.{eqb, leb}
 use lib.ListN.{length, getD}
+use Rattle.pairs.specs.Pairs.{wide}
 use Rattle.bits.specs.Bits.{put}
 use Rattle.wire.specs.declared.Wire.{Wire}
 use Rattle.wire.specs.declared.Listening.{Listening}
@@ -27,10 +28,6 @@ listeningNumber Takes = 3
 
 abbrev pub listeningBy : ℕ → Listening
 listeningBy n = getD (Nothing ∷ FirstByte ∷ Bytes ∷ Takes ∷ []) n Nothing
-
--- A number of two bytes, the high one first.
-abbrev pub wide : ℕ → ℕ → ℕ
-wide high low = high * 256 + low
 
 unfoldable pub saved : Wire → List ℕ
 saved w =

@@ -1,13 +1,14 @@
 // The held state as bytes: `save` writes them, and `load` answers any bytes at all.
 ghost use mathlib.Core.Path.{_≡_};
 ghost use lib.ListN.{length};
-ghost use Rattle.wire.specs.Image.{BYTES, wide, listeningNumber, listeningBy, saved, wireIn, loadOf};
+ghost use Rattle.wire.specs.Image.{BYTES, listeningNumber, listeningBy, saved, wireIn, loadOf};
 use crate::Ear;
 use crate::Lines;
 use crate::Listening;
 use crate::Loaded;
 use crate::Wire;
 use bits::put;
+use pairs::wide;
 
 // The version rises whenever a byte, what it may hold or the length changes.
 pub const LAYOUT: u8 = 1;
@@ -52,13 +53,6 @@ impl Listening {
             _ => Listening::Nothing,
         }
     }
-}
-
-// A number of two bytes.
-fn wide(high: u8, low: u8) -> u16
-    ensures { λ r. ⌜ r ≡ wide high low ⌝ }
-{
-    high as u16 * 256 + low as u16
 }
 
 pub fn save(wire: Wire) -> [u8; BYTES]

@@ -1,6 +1,6 @@
 -- `capture::rows::bare` meets its contract: the word's two bytes. Assumes nothing.
+use Rattle.pairs.specs.Pairs.{bytesOf}
 use Rattle.lines.specs.Text.{written}
-use Rattle.capture.specs.Rows.{bytesOf}
 use borrow.Author.Needs.{needs}
 use Rattle.capture.proofs.rows.bare.Statement.{statement}
 use Rattle.capture.proofs.rows.bare.Tie as tie

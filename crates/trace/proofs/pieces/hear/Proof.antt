@@ -3,7 +3,7 @@ use mathlib.Core.Path.{refl, _∙_}
 use borrow.Author.Needs.{needs}
 use Rattle.dock.specs.Run.{after}
 use Rattle.lines.specs.Line.{lineOf}
-use Rattle.lines.specs.Words.{wordsIn, loneIn}
+use Rattle.pairs.specs.Pairs.{wordsIn, loneIn}
 use Rattle.trace.specs.Text.{linesOf}
 use Rattle.lines.specs.Text.{written}
 use Rattle.trace.specs.Pieces.{linesFed, traceFed, fedOf}

@@ -1,0 +1,10 @@
+// Words as bytes: each is two of them, the high one first.
+ghost use mathlib.Core.Path.{_≡_};
+ghost use Rattle.pairs.specs.Pairs.{wide};
+
+// The number of two bytes.
+pub fn wide(high: u8, low: u8) -> u16
+    ensures { λ r. ⌜ r ≡ wide high low ⌝ }
+{
+    high as u16 * 256 + low as u16
+}
