@@ -16,6 +16,9 @@ use Rattle.link.proofs.held.dock_reading.Reads as reading-reads
 use Rattle.link.proofs.held.dock_outputs.Reads as outputs-reads
 use Rattle.link.proofs.wires.dock_wire_begin.Reads as wire-begin-reads
 use Rattle.link.proofs.wires.dock_wire_listen.Reads as wire-listen-reads
+use Rattle.link.proofs.queues.dock_queue_begin.Reads as queue-begin-reads
+use Rattle.link.proofs.queues.dock_queue_put.Reads as queue-put-reads
+use Rattle.link.proofs.queues.dock_queue_take.Reads as queue-take-reads
 use Rattle.link.proofs.held.dock_held_byte.Reads as held-byte-reads
 
 pub version-determined : (r s : ℕ) → version-reads.Post tt tt r tt → version-reads.Post tt tt s tt → r ≡ s
@@ -86,3 +89,21 @@ pub wire-listen-determined :
     → (r ≡ s) × (now left ≡ now left′) × (now written ≡ now written′)
 wire-listen-determined κs held samples words r s left left′ written written′ p q =
     (p .0 ∙ sym (q .0), p .1 .0 ∙ sym (q .1 .0), p .1 .1 ∙ sym (q .1 .1))
+
+pub queue-begin-determined :
+    (κs : _) (queue : RefT (List ℕ)) (r s : ℕ) (left left′ : RefT (List ℕ))
+    → queue-begin-reads.Post κs (queue, tt) r (left, tt) → queue-begin-reads.Post κs (queue, tt) s (left′, tt)
+    → (r ≡ s) × (now left ≡ now left′)
+queue-begin-determined κs queue r s left left′ p q = (p .0 ∙ sym (q .0), p .1 ∙ sym (q .1))
+
+pub queue-put-determined :
+    (κs : _) (queue : RefT (List ℕ)) (w r s : ℕ) (left left′ : RefT (List ℕ))
+    → queue-put-reads.Post κs (queue, (w, tt)) r (left, (w, tt)) → queue-put-reads.Post κs (queue, (w, tt)) s (left′, (w, tt))
+    → (r ≡ s) × (now left ≡ now left′)
+queue-put-determined κs queue w r s left left′ p q = (p .0 ∙ sym (q .0), p .1 ∙ sym (q .1))
+
+pub queue-take-determined :
+    (κs : _) (queue : RefT (List ℕ)) (r s : ℕ) (left left′ : RefT (List ℕ))
+    → queue-take-reads.Post κs (queue, tt) r (left, tt) → queue-take-reads.Post κs (queue, tt) s (left′, tt)
+    → (r ≡ s) × (now left ≡ now left′)
+queue-take-determined κs queue r s left left′ p q = (p .0 ∙ sym (q .0), p .1 ∙ sym (q .1))

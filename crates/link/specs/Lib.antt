@@ -3,3 +3,4 @@ pub mod Version
 pub mod Events
 pub mod Held
 pub mod Wires
+pub mod Queues

@@ -3,6 +3,7 @@
 mod answer;
 pub mod events;
 pub mod held;
+pub mod queues;
 pub mod replay;
 pub mod version;
 pub mod wires;

@@ -1,0 +1,5 @@
+pub mod Fit
+pub mod Ring
+pub mod Cases
+pub mod Moved
+pub mod Theorems

@@ -1,0 +1,12 @@
+-- `queue::Queue::empty` meets its contract: its code is the definition. Assumes nothing.
+use mathlib.Core.Path.{refl}
+use Rattle.queue.specs.Record.{emptyQueue}
+use Rattle.queue.proofs.Queue.empty.Statement.{statement}
+use Rattle.queue.proofs.Queue.empty.Tie as tie
+
+returns : tie.Need-returns
+unfolding emptyQueue
+returns c = refl
+
+pub empty-spec : {M : Type 1} → statement M
+empty-spec = tie.close (tie.spec returns)

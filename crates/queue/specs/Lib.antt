@@ -1,0 +1,4 @@
+pub mod Record
+pub mod Numbers
+pub mod Turns
+pub mod Run
