@@ -9,9 +9,11 @@
  *   tick N                N ticks of the timer, the loop between each
  *   flood N HH            N ticks while the loop is held up, and then the inputs change
  *   flood reset N         .. and then the reset line is pulled
+ *   hold, go              the loop is held up from the one to the other: what happens in between waits
  *   start, stop, byte HH, take, timeout, reset      one event
  *   write RR VV, read RR  a whole command of the host, which waits for each answer
  *   memory N HH, ram N HH a byte of the memory, or of the held state, changes by itself
+ *   queue N HH            .. or of the queue in which words wait
  *   registers             what the four bay registers read, asked outside the bus
  */
 #include "board.h"
@@ -42,7 +44,7 @@ static uint8_t memory[MEMORY_BYTES]; /* FFh from its maker */
 static uint16_t straps;
 static uint8_t levels = NONE_ASSERTED;
 static uint16_t driven;
-static int powered, listening;
+static int powered, listening, held_up;
 static unsigned written, written_from, writes_left = NEVER;
 static volatile unsigned without_room; /* interrupts count it */
 static struct event coming[MOST_EVENTS];
@@ -255,6 +257,12 @@ static void play_powered(const char *line) {
         add_read(a);
     } else if (sscanf(line, "ram %u %x", &a, &b) == 2 && a < DOCK_STATE_BYTES) {
         dock.state[a] = (uint8_t)b;
+    } else if (sscanf(line, "queue %u %x", &a, &b) == 2 && a < DOCK_QUEUE_BYTES) {
+        dock.waiting[a] = (uint8_t)b;
+    } else if (strcmp(line, "hold") == 0) {
+        held_up = 1;
+    } else if (strcmp(line, "go") == 0) {
+        held_up = 0;
     } else if (strcmp(line, "registers") == 0) {
         print_registers();
     } else {
@@ -287,8 +295,8 @@ static void tell_counts(void) {
     without_room = written = 0;
 }
 
-/* The next interrupt of the line, or the next line. */
-int board_wait(void) {
+/* The next interrupt of the line, or the next line. 0 where the power is gone. */
+static int go_on(void) {
     char line[LINE_BYTES];
     tell_counts();
     if (!powered) {
@@ -310,6 +318,14 @@ int board_wait(void) {
     return powered;
 }
 
+int board_wait(void) {
+    int on;
+    do {
+        on = go_on();
+    } while (on && held_up);
+    return on;
+}
+
 /* RAM without power holds anything. */
 static void spoil(uint8_t *bytes, size_t length) {
     for (size_t i = 0; i < length; i++) {
@@ -320,7 +336,7 @@ static void spoil(uint8_t *bytes, size_t length) {
 /* Nothing in RAM outlives a cut, and the pins fall. */
 static void lose_power(void) {
     spoil((uint8_t *)&dock, sizeof dock);
-    powered = listening = 0;
+    powered = listening = held_up = 0;
     writes_left = NEVER;
     driven = 0;
     puts("  power is gone");

@@ -1,4 +1,5 @@
-/* What the firmware asks of a board. On a chip each of these is a few lines; board.c stands in for all of them. */
+/* What the firmware asks of a board. On a chip each of these is a few lines; board.c and chip.c stand in for all of
+ * them. */
 #ifndef BOARD_H
 #define BOARD_H
 
@@ -26,6 +27,12 @@ void board_memory_write(unsigned at, uint8_t byte);
 
 /* Turns the interrupts on. */
 void board_listen(void);
+
+/* Holds the interrupts back, and lets them in again: one that comes meanwhile comes then. The firmware's loop calls
+ * them in turns, after board_listen and outside of interrupts. Neither the processor nor the compiler may move a
+ * reading or a writing of memory across them. */
+void board_mask(void);
+void board_unmask(void);
 
 /* Sleeps until an interrupt came. On a chip this is never 0: it tells that the power is gone. */
 int board_wait(void);

@@ -1,5 +1,5 @@
 /* How something happens to the board of board.c: by an interrupt. On a PC a program has none, and chip.c calls what an
- * interrupt would; small/chip.c has those of a Cortex-M, its timer among them. */
+ * interrupt would; small/chip.c has those of a Cortex-M, its timer among them. Both also mask them, as board.h asks. */
 #ifndef CHIP_H
 #define CHIP_H
 

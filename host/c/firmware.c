@@ -1,4 +1,4 @@
-/* A dock's main loop: words from the ring, one step each, then the bus, the pins and the saved state. */
+/* A dock's main loop: words from the queue, one step each, then the bus, the pins and the saved state. */
 #include "firmware.h"
 
 #include "board.h"
@@ -10,17 +10,51 @@
 static uint16_t timeout_word(void) { return dock_value(dock_pack(DOCK_TIMEOUT, 0, 0)); }
 static uint16_t levels_word(void) { return dock_value(dock_pack(DOCK_PINS, board_levels(), 0)); }
 
+/* ---- words that wait ---- */
+
+/* In an interrupt. 0 where the word is lost, and with it every later one until the loop has seen that: what the loop
+ * takes has no gap that it does not know of. */
+static int put(struct firmware *dock, uint16_t word) {
+    if (!dock->lost && dock_refusal(dock_queue_put(dock->waiting, sizeof dock->waiting, word)) != DOCK_ACCEPTED) {
+        dock->lost = 1;
+    }
+    return !dock->lost;
+}
+
 /* A RESET is never just lost: the loop makes up for it, and what comes after it waits for that. */
 int firmware_event(struct firmware *dock, uint8_t kind, uint16_t first, uint8_t second) {
     uint32_t packed = dock_pack(kind, first, second);
-    if (dock_refusal(packed) == DOCK_ACCEPTED && ring_put(&dock->waiting, dock_value(packed))) {
-        return 1;
-    }
-    if (kind == DOCK_RESET) {
+    int waits = dock_refusal(packed) == DOCK_ACCEPTED && put(dock, dock_value(packed));
+    if (kind == DOCK_RESET && waits) {
+        dock->reset_waits = 1;
+    } else if (kind == DOCK_RESET) {
         dock->reset_lost = 1;
-        dock->waiting.lost = 1;
+        dock->lost = 1;
     }
-    return 0;
+    return waits;
+}
+
+/* Masked: bytes that no call explains, as after a flipped bit in RAM. What waited is lost, also a RESET. */
+static void begin_queue_anew(struct firmware *dock) {
+    dock_queue_begin(dock->waiting, sizeof dock->waiting);
+    dock->lost = 1;
+    if (dock->reset_waits) {
+        dock->reset_lost = 1;
+    }
+}
+
+/* In the loop, so masked: a put in the middle of a take would lose a word. The answer of dock_queue_take. */
+static uint32_t take(struct firmware *dock) {
+    board_mask();
+    uint32_t taken = dock_queue_take(dock->waiting, sizeof dock->waiting);
+    if (dock_refusal(taken) == DOCK_UNFIT_STATE) {
+        begin_queue_anew(dock);
+    }
+    if (dock_refusal(taken) != DOCK_ACCEPTED) {
+        dock->reset_waits = 0;
+    }
+    board_unmask();
+    return taken;
 }
 
 /* ---- one event ---- */
@@ -75,10 +109,11 @@ static int go_on(struct firmware *dock) {
            give(dock, timeout_word()) == DOCK_ACCEPTED && give(dock, levels_word()) == DOCK_ACCEPTED;
 }
 
-/* The interrupts come on before the levels are sampled, so that no change falls between the two. */
+/* The interrupts come on before the levels are sampled, so that no change falls between the two. Until then none comes,
+ * and nothing need be masked. */
 static void start(struct firmware *dock) {
-    ring_begin(&dock->waiting);
-    dock->reset_lost = 0;
+    dock_queue_begin(dock->waiting, sizeof dock->waiting);
+    dock->lost = dock->reset_waits = dock->reset_lost = 0;
     board_listen();
     if (!go_on(dock)) {
         memset(dock->saved, 0, sizeof dock->saved);
@@ -126,18 +161,18 @@ static void turn(struct firmware *dock, uint16_t word) {
 }
 
 static void drain(struct firmware *dock) {
-    uint16_t word;
-    while (ring_take(&dock->waiting, &word)) {
-        turn(dock, word);
+    uint32_t taken;
+    while (taken = take(dock), dock_refusal(taken) == DOCK_ACCEPTED) {
+        turn(dock, dock_value(taken));
     }
 }
 
-/* Words were lost after those that wait. A command may have a gap, so it ends here; the levels are sampled anew; lost
+/* Words were lost behind those that wait. A command may have a gap, so it ends here; the levels are sampled anew; lost
  * ticks stay lost. A lost RESET does all that and more. Each mark goes before what it asks for, so that nothing that
  * happens from here on is missed. */
 static void catch_up(struct firmware *dock) {
     drain(dock);
-    dock->waiting.lost = 0;
+    dock->lost = 0;
     if (dock->reset_lost) {
         dock->reset_lost = 0;
         start_anew(dock);
@@ -154,7 +189,7 @@ void firmware_run(struct firmware *dock) {
     start(dock);
     do {
         drain(dock);
-        if (dock->waiting.lost) {
+        if (dock->lost) {
             catch_up(dock);
         }
         save(dock);

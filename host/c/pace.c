@@ -1,10 +1,12 @@
-/* The library and the C controller on the same words, and the wire cells of both on the same samples, made by one
- * compiler: `pace REPEATS` tells the nanoseconds for each event and for each sample on the machine itself, medians of so
- * many runs of each, which take turns. With PACE_COUNT defined it is a program without a system, `pace LIST SIDE COUNT`,
- * that only gives the words, or the samples, to one side, for an emulator to count the instructions. The lists are those
- * of speed/src/lists.rs and speed/src/wire.rs; the lists of samples come after those of words. */
+/* The library and the C controller on the same words, the wire cells of both on the same samples, and the queues of
+ * both, made by one compiler: `pace REPEATS` tells the nanoseconds for each event, for each sample and for each word
+ * that is put and taken on the machine itself, medians of so many runs of each, which take turns. With PACE_COUNT
+ * defined it is a program without a system, `pace LIST SIDE COUNT`, that only gives the words, or the samples, to one
+ * side, for an emulator to count the instructions. The lists are those of speed/src/lists.rs and speed/src/wire.rs; the
+ * lists of samples come after those of words, and then the words that go through a queue, which are the mix. */
 #include "dock.h"
 #include "held.h"
+#include "queue.h"
 #include "wire.h"
 
 #include <stddef.h>
@@ -192,6 +194,63 @@ static void plain_singly(const uint8_t *list, size_t count, uint16_t *into) {
 typedef void listen_t(const uint8_t *list, size_t count, uint16_t *into);
 static listen_t *const listens[SIDES] = {library_listen, plain_listen, library_singly, plain_singly};
 
+/* ---- words that wait ---- */
+
+static uint16_t taken[SIDES][WORDS];
+
+/* Each word is taken before the next is put. */
+static void library_turns(const uint16_t *list, size_t count, uint16_t *into) {
+    uint8_t queue[DOCK_QUEUE_BYTES];
+    dock_queue_begin(queue, sizeof queue);
+    for (size_t i = 0; i < count; i++) {
+        dock_queue_put(queue, sizeof queue, list[i]);
+        into[i] = dock_value(dock_queue_take(queue, sizeof queue));
+    }
+}
+
+static void plain_turns(const uint16_t *list, size_t count, uint16_t *into) {
+    uint8_t queue[DOCK_QUEUE_BYTES];
+    dock_queue_begin(queue, sizeof queue);
+    for (size_t i = 0; i < count; i++) {
+        plain_queue_put(queue, sizeof queue, list[i]);
+        into[i] = dock_value(plain_queue_take(queue, sizeof queue));
+    }
+}
+
+static size_t least(size_t one, size_t other) { return one < other ? one : other; }
+
+/* The queue is filled, and then emptied. */
+static void library_fills(const uint16_t *list, size_t count, uint16_t *into) {
+    uint8_t queue[DOCK_QUEUE_BYTES];
+    dock_queue_begin(queue, sizeof queue);
+    for (size_t i = 0; i < count; i += DOCK_QUEUE_WORDS) {
+        size_t end = least(count, i + DOCK_QUEUE_WORDS);
+        for (size_t at = i; at < end; at++) {
+            dock_queue_put(queue, sizeof queue, list[at]);
+        }
+        for (size_t at = i; at < end; at++) {
+            into[at] = dock_value(dock_queue_take(queue, sizeof queue));
+        }
+    }
+}
+
+static void plain_fills(const uint16_t *list, size_t count, uint16_t *into) {
+    uint8_t queue[DOCK_QUEUE_BYTES];
+    dock_queue_begin(queue, sizeof queue);
+    for (size_t i = 0; i < count; i += DOCK_QUEUE_WORDS) {
+        size_t end = least(count, i + DOCK_QUEUE_WORDS);
+        for (size_t at = i; at < end; at++) {
+            plain_queue_put(queue, sizeof queue, list[at]);
+        }
+        for (size_t at = i; at < end; at++) {
+            into[at] = dock_value(plain_queue_take(queue, sizeof queue));
+        }
+    }
+}
+
+typedef void queue_t(const uint16_t *list, size_t count, uint16_t *into);
+static queue_t *const queues[SIDES] = {library_turns, plain_turns, library_fills, plain_fills};
+
 /* ---- words ---- */
 
 static void put_record(uint8_t *record, uint32_t bits) {
@@ -246,8 +305,10 @@ __attribute__((used, noreturn)) static void begin(char **stack) {
     make_samples();
     if (list < LISTS) {
         sides[side](words[list], count, records[0]);
-    } else {
+    } else if (list < LISTS + SAMPLE_LISTS) {
         listens[side](samples[list - LISTS], count, heard[0]);
+    } else {
+        queues[side](words[LISTS - 1], count, taken[0]);
     }
     __asm__ volatile("syscall" : : "a"(60), "D"(0));
     __builtin_unreachable();
@@ -303,10 +364,22 @@ static void time_samples(const uint8_t *list, size_t repeats) {
     }
 }
 
+static void time_queues(const uint16_t *list, size_t repeats) {
+    for (size_t run = 0; run < repeats; run++) {
+        for (int side = 0; side < SIDES; side++) {
+            memset(taken[side], 0, sizeof taken[side]);
+            double from = now();
+            queues[side](list, WORDS, taken[side]);
+            times[side][run] = (now() - from) / WORDS;
+        }
+    }
+}
+
 static int all_agree(void) {
     for (int side = 1; side < SIDES; side++) {
         if (memcmp(records[0], records[side], sizeof records[0]) != 0 ||
-            memcmp(heard[0], heard[side], sizeof heard[0]) != 0) {
+            memcmp(heard[0], heard[side], sizeof heard[0]) != 0 ||
+            memcmp(taken[0], taken[side], sizeof taken[0]) != 0) {
             return 0;
         }
     }
@@ -359,7 +432,9 @@ int main(int count, char **arguments) {
             return 1;
         }
     }
-    return 0;
+    printf("\n%-36s %8s %8s %6s %8s %8s %6s\n", "ns for each word", "in turns", "C", "ratio", "128", "C", "ratio");
+    time_queues(words[LISTS - 1], (size_t)repeats);
+    return !tell("a put and a take", (size_t)repeats);
 }
 
 #endif

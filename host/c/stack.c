@@ -28,6 +28,7 @@ static uint8_t records[WORDS * DOCK_RECORD_BYTES];
 static volatile uint32_t answer;
 static uint8_t held[DOCK_WIRE_BYTES];
 static uint8_t samples[WORDS];
+static uint8_t queue[DOCK_QUEUE_BYTES];
 
 static void nothing(void) { answer = 0; }
 static void version(void) { answer = dock_version(); }
@@ -45,6 +46,16 @@ static void steps(void) {
 }
 static void wire_begin(void) { answer = dock_wire_begin(held, sizeof held); }
 static void wire_listen(void) { answer = dock_wire_listen(held, sizeof held, samples, WORDS, words, WORDS); }
+static void queue_begin(void) { answer = dock_queue_begin(queue, sizeof queue); }
+/* Accepted and refused ones, from every place. */
+static void queue_puts(void) {
+    for (size_t i = 0; i <= DOCK_QUEUE_WORDS; i++)
+        answer = dock_queue_put(queue, sizeof queue, TICK);
+}
+static void queue_takes(void) {
+    for (size_t i = 0; i <= DOCK_QUEUE_WORDS; i++)
+        answer = dock_queue_take(queue, sizeof queue);
+}
 static void pack(void) { answer = dock_pack(DOCK_TICK, 0, 0); }
 static void unpack(void) { answer = dock_unpack(TICK); }
 
@@ -104,6 +115,9 @@ int main(void) {
     fill_samples();
     report("dock_wire_begin", wire_begin);
     report("dock_wire_listen", wire_listen);
+    report("dock_queue_begin", queue_begin);
+    report("dock_queue_put", queue_puts);
+    report("dock_queue_take", queue_takes);
     report("dock_pack", pack);
     report("dock_unpack", unpack);
     report("dock_version", version);

@@ -1,4 +1,4 @@
-/* The proved controller of a two-bay cartridge dock, version 5.1, for C99 or C++11 and newer.
+/* The proved controller of a two-bay cartridge dock, version 5.2, for C99 or C++11 and newer.
  *
  * A program holds the controller's state as DOCK_STATE_BYTES bytes and gives it one event at a time:
  *
@@ -44,6 +44,9 @@ extern "C" {
  * rises where a program that was built on an older header would misread or misuse a call, the second where it would
  * not.
  *
+ * Since 5.2 dock_queue_begin, dock_queue_put and dock_queue_take are a queue of words that wait, and give refusals 7
+ * and 8. No other call has changed.
+ *
  * Since 5.1 dock_held_byte tells the byte that an open read holds, and dock_wire_begin and dock_wire_listen are a wire
  * cell. No other call has changed.
  *
@@ -74,7 +77,7 @@ extern "C" {
  *
  * Before version 2, dock_reading and dock_outputs took words where they take a state now, and dock_unpack had a layout
  * of its own. A program that was built on such a header must be built again. */
-#define DOCK_VERSION 0x0501u
+#define DOCK_VERSION 0x0502u
 
 /* Bits of words and answers, numbers of events, replies and refusals that this header does not name are 0 or not given
  * in this version. A later one may use them, and then has a higher first number. A program that begins by asking
@@ -87,6 +90,8 @@ static inline int dock_fits_header(void) { return dock_version() >> 8 == DOCK_VE
 #define DOCK_MOST_WORDS 16384u
 #define DOCK_WIRE_BYTES 7u
 #define DOCK_MOST_SAMPLES 16384u
+#define DOCK_QUEUE_BYTES 261u
+#define DOCK_QUEUE_WORDS 128u
 
 /* The kinds of events, and the two numbers that dock_pack takes and dock_unpack gives for each. A number that is not
  * named is 0. */
@@ -106,7 +111,8 @@ enum dock_kind_number {
 #define DOCK_SHORT_PULSE 0x100u
 
 /* The refusals, by call. "call": the call refuses. "record": the record of that word says so, and the call goes on.
- * dock_version gives 0 only, and dock_held_byte is refused as dock_outputs is.
+ * dock_version gives 0 only, and dock_held_byte is refused as dock_outputs is. The wire cell's calls and the queue's
+ * have tables of their own, below.
  *
  * | no. | given when | begin | step | batch | reading, outputs | name_kind | replay | pack | unpack |
  * |---|---|---|---|---|---|---|---|---|---|
@@ -117,8 +123,9 @@ enum dock_kind_number {
  * | 4 | fewer than 4 record bytes for each word | | | call | | | call | | |
  * | 5 | over 16,384 words | | | call | | | call | | |
  * | 6 | RESET with straps above 15 | | | | | | | call | |
+ * | 7, 8 | by the queue's calls alone | | | | | | | | |
  * | 14 | the number is that of no kind of controller | | | | | call | | | |
- * | 7-13, 15 | never in this version | | | | | | | | |
+ * | 9-13, 15 | never in this version | | | | | | | | |
  *
  * Where more than one could be given, the order is 1, 5, 4 for a call with words, 1, 2, 3 for an event, and 1, 14 for a
  * name. */
@@ -130,6 +137,8 @@ enum dock_refusal_number {
     DOCK_SHORT_ANSWERS = 4,
     DOCK_TOO_MANY_WORDS = 5,
     DOCK_WIDE_STRAPS = 6,
+    DOCK_QUEUE_FULL = 7,
+    DOCK_QUEUE_EMPTY = 8,
     DOCK_NO_SUCH_KIND = 14
 };
 
@@ -275,6 +284,59 @@ uint32_t dock_wire_begin(uint8_t *held, uint64_t held_len);
 uint32_t dock_wire_listen(uint8_t *held, uint64_t held_len, const uint8_t *samples, uint64_t samples_len,
                           uint16_t *words, uint64_t words_len);
 
+/* ---- the queue: words that wait while the main loop is busy ----
+ *
+ * An interrupt puts the words of events, and the main loop takes them for dock_step. At most DOCK_QUEUE_WORDS wait;
+ * they are taken in the order in which they were put, and a place that a take frees is used again. Every word of 16
+ * bits is accepted, also one that dock_step refuses. A queue is DOCK_QUEUE_BYTES bytes of its own, beside the dock's
+ * state and handled as that is: any bytes at all may come back as one. What stays the caller's duty is the same.
+ *
+ * A put and a take are NOT atomic: each reads the queue and writes it later. A call in between, from an interrupt, can
+ * lose a word or have one given twice, and no answer tells. So a caller with an interrupt does one of two things:
+ *
+ * - It masks the interrupt around every call that is made outside of it: each take, dock_queue_begin, and any look at
+ *   the bytes, dock_queue_count among them. The interrupt itself puts without a mask, and so interrupts that put must
+ *   not interrupt one another: they have one priority, or mask each other. The functions that mask must also keep the
+ *   compiler from moving a reading or a writing of memory across them, as those of a chip's maker do.
+ * - Or it makes all calls from one context, the loop or the interrupt, and masks nothing.
+ *
+ * Words are put as they come, and lost where 128 wait, so the loop has to be told of that. With mask and unmask as the
+ * chip has them:
+ *
+ *     static uint8_t queue[DOCK_QUEUE_BYTES];               // where the interrupt and the loop find it
+ *     static volatile uint8_t lost;
+ *     dock_queue_begin(queue, sizeof queue);                // before the interrupt is let in, or masked
+ *                                                           // in the interrupt, here with a TICK:
+ *     uint32_t put = dock_queue_put(queue, sizeof queue, 0xA000);
+ *     if (dock_refusal(put) != DOCK_ACCEPTED)
+ *         lost = 1;
+ *                                                           // in the loop:
+ *     mask();
+ *     uint32_t taken = dock_queue_take(queue, sizeof queue);
+ *     unmask();
+ *     if (dock_refusal(taken) == DOCK_ACCEPTED)             // else none waits, or the bytes are damaged
+ *         record = dock_step(state, sizeof state, dock_value(taken));
+ *
+ * firmware.c, among the examples, is a loop to copy: it makes up for words that were lost, and begins a damaged queue
+ * anew. The refusals:
+ *
+ * | no. | of dock_queue_begin | of dock_queue_put | of dock_queue_take |
+ * |---|---|---|---|
+ * | 1 | the queue has another length | .. or is no image of a fit queue | .. or is no image of a fit queue |
+ * | 7 | | 128 words wait | |
+ * | 8 | | | no word waits |
+ *
+ * Where more than one could be given, 1 comes first. */
+
+/* Writes the image of an empty queue. Value: 0. */
+uint32_t dock_queue_begin(uint8_t *queue, uint64_t queue_len);
+
+/* Puts the word behind those that wait. Value: 0. */
+uint32_t dock_queue_put(uint8_t *queue, uint64_t queue_len, uint16_t word);
+
+/* Takes the word that has waited longest. Value: the word; 0 is one too, so the refusal tells whether there was any. */
+uint32_t dock_queue_take(uint8_t *queue, uint64_t queue_len);
+
 /* ---- answers taken apart ---- */
 
 /* Of every call but dock_step. */
@@ -392,6 +454,25 @@ enum dock_wire_listening {
 
 /* 0 where SCLK is high; at 17,501 it stays until then. */
 static inline uint16_t dock_wire_low(const uint8_t *held) { return dock_ticks(held + DOCK_WIRE_AT_LOW); }
+
+/* ---- the image of a queue, byte by byte ----
+ *
+ * Bytes are no image where the length is another one or byte 0 is not DOCK_QUEUE_LAYOUT. Every other byte string is the
+ * image of exactly one queue, which is unfit where the start or the count is outside its range. To a caller both are
+ * refusal 1. DOCK_QUEUE_LAYOUT rises as DOCK_LAYOUT does.
+ *
+ * As many words wait as the count says, from the start's place on, 127 followed by 0. A put changes the place behind
+ * them and the count, a take the start and the count: the word that it gives stays where it stood. The other places may
+ * hold anything. */
+#define DOCK_QUEUE_LAYOUT 1u
+
+#define DOCK_QUEUE_AT_VERSION 0u /* DOCK_QUEUE_LAYOUT */
+#define DOCK_QUEUE_AT_START 1u   /* 0-127, in two bytes, the high one first: the place of the word that is taken next */
+#define DOCK_QUEUE_AT_COUNT 3u   /* 0-128, likewise: how many wait */
+#define DOCK_QUEUE_AT_WORDS 5u   /* the 128 places, two bytes each, the high one first */
+
+/* Of a fit queue, and with the interrupt masked as for a call. */
+static inline uint16_t dock_queue_count(const uint8_t *queue) { return dock_ticks(queue + DOCK_QUEUE_AT_COUNT); }
 
 #ifdef __cplusplus
 }

@@ -1,4 +1,4 @@
-//! Compiles the C controller and the wire cell in C at -O3 with the system's `cc`, for whoever builds with cargo.
+//! Compiles the C controller, and the wire cell and the queue in C, at -O3 with the system's `cc`, for whoever builds with cargo.
 
 use std::path::Path;
 use std::process::Command;
@@ -11,7 +11,7 @@ fn run(program: &str, arguments: &[&str]) {
 fn main() {
     let folder = std::env::var("OUT_DIR").expect("cargo sets OUT_DIR");
     let archive = Path::new(&folder).join("libplain.a");
-    for name in ["plain", "wire"] {
+    for name in ["plain", "wire", "queue"] {
         let source = format!("{}.c", name);
         let object = Path::new(&folder).join(format!("{}.o", name));
         let object = object.to_string_lossy();
@@ -22,4 +22,5 @@ fn main() {
     println!("cargo:rustc-link-search=native={}", folder);
     println!("cargo:rustc-link-lib=static=plain");
     println!("cargo:rerun-if-changed=wire.h");
+    println!("cargo:rerun-if-changed=queue.h");
 }

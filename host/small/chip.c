@@ -1,5 +1,7 @@
 /* The interrupts of a Cortex-M: SysTick every ten milliseconds, and the first line of the interrupt controller, which
- * is pended by hand where a board's bus and inputs would. CLOCK_HZ is how fast the board's processor is. */
+ * is pended by hand where a board's bus and inputs would. Both put words, and both keep the priority that they have
+ * after a reset, which is the same: so neither interrupts the other. CLOCK_HZ is how fast the board's processor is. */
+#include "../c/board.h"
 #include "../c/chip.h"
 #include "timer.h"
 
@@ -34,6 +36,10 @@ void chip_listen(void) {
     LINES_ENABLE = LINE_0;
 }
 
+/* The clobber keeps the compiler from moving a reading or a writing of the queue across. */
+void board_mask(void) { __asm__ volatile("cpsid i" ::: "memory"); }
+void board_unmask(void) { __asm__ volatile("cpsie i" ::: "memory"); }
+
 /* The barriers have it come before anything that follows. */
 void chip_raise(void) {
     LINES_PEND = LINE_0;
@@ -43,9 +49,9 @@ void chip_raise(void) {
 /* Asleep with interrupts held back, so that none falls between the look and the sleep: a pending one ends it. */
 void chip_tick(void) {
     awaited = 1;
-    __asm__ volatile("cpsid i" ::: "memory");
+    board_mask();
     while (awaited) {
         __asm__ volatile("wfi\n\tcpsie i\n\tisb\n\tcpsid i" ::: "memory");
     }
-    __asm__ volatile("cpsie i" ::: "memory");
+    board_unmask();
 }

@@ -1,4 +1,4 @@
-# shellcheck shell=bash disable=SC2154
+# shellcheck shell=bash disable=SC2034,SC2154
 # Sourced by host/run: the library on emulated boards, held against the one for x86-64. Every program here is the same C
 # on both sides, and what it prints there must be what it prints here.
 
@@ -12,6 +12,7 @@ build_images() {
     image c-example "$1" "$here/c/example.c"
     image calls "$1" "$here/c/calls.c"
     image wire-calls "$1" "$here/c/wire_calls.c"
+    image queue-calls "$1" "$here/c/queue_calls.c"
     image player "$1" "${player_sources[@]}"
 }
 
@@ -114,10 +115,27 @@ check_programs() {
     there c-example "$1" c-example.out </dev/null
     there calls "$1" calls.out </dev/null
     there wire-calls "$1" wire-calls.out </dev/null
+    there queue-calls "$1" queue-calls.out </dev/null
     same "$1: the main loop prints what is stored" "$firmware/$1/loop.out" "$here/firmware.out"
     same "$1: the example prints what is stored" "$firmware/$1/c-example.out" "$here/example.out"
     same "$1: the calls, checked from C, as on x86-64" "$firmware/$1/calls.out" "$firmware/calls.out"
     same "$1: the wire cell's calls likewise" "$firmware/$1/wire-calls.out" "$firmware/wire-calls.out"
+    same "$1: the queue's calls likewise" "$firmware/$1/queue-calls.out" "$firmware/queue-calls.out"
+}
+
+# An interrupt that comes at any moment, as only a Cortex-M's does here: each word that it puts is taken, in order.
+# Without the mask that must go wrong, or it would show nothing.
+check_interrupts() {
+    local image_flags=() sources=("$here"/c/{firmware,store}.c "$small/interrupted.c")
+    image interrupted "$1" "${sources[@]}"
+    image_flags=(-DUNMASKED)
+    image unmasked "$1" "${sources[@]}"
+    there interrupted "$1" interrupted.out </dev/null
+    echo "emulate: $1: $(cat "$firmware/$1/interrupted.out")"
+    if emulate unmasked "$1" </dev/null >"$firmware/$1/unmasked.out"; then
+        differs "$1: without the mask nothing goes wrong"
+    fi
+    echo "emulate: $1: .. and without the mask $(cat "$firmware/$1/unmasked.out")"
 }
 
 check_runs() {
@@ -153,12 +171,13 @@ emulate_all() {
     generated_runs "${1:-200000}" "${2:-1}" >"$firmware/generated.in"
     saving_runs >"$firmware/saving.in"
     for name in trace paper generated saving; do play_here "$name"; done
-    for name in calls wire-calls; do
+    for name in calls wire-calls queue-calls; do
         (start "$name") >"$firmware/$name.out" || differs "$name on x86-64 ends with status $?"
     done
     for processor in "${processors[@]}"; do
         build_images "$processor"
         check_programs "$processor"
+        [ "$processor" = riscv32 ] || check_interrupts "$processor"
         check_runs "$processor"
         check_interchange "$processor"
     done

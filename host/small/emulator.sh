@@ -38,7 +38,9 @@ choose_emulator() {
     fi
 }
 
-# image PROGRAM PROCESSOR SOURCE..: a program with the library, for the processor's board.
+# image PROGRAM PROCESSOR SOURCE..: a program with the library, for the processor's board. The compiler is also told
+# what image_flags has.
+image_flags=()
 image() {
     local program=$1 processor=$2 folder=$firmware/$2 source objects=()
     shift 2
@@ -46,7 +48,7 @@ image() {
     board_of "$processor" "$program"
     for source in "$small"/{start,semihost}.c "$small"/libc/*.c "$@"; do
         objects+=("$folder/$program-$(basename "$source").o")
-        compile_small "${objects[-1]}" "$source" -DCLOCK_HZ="${clock}u"
+        compile_small "${objects[-1]}" "$source" -DCLOCK_HZ="${clock}u" "${image_flags[@]}"
     done
     "$tools/bin/ld.lld" --gc-sections -L "$small" -T "$small/$board.ld" -o "$folder/$program.elf" "${objects[@]}" \
         "$folder/libdock.a"

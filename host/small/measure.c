@@ -1,11 +1,12 @@
 /* What calls take on the board: the stack that they write to and the instructions that they run, of the library and of
- * the C controller, or the wire cell in C, beside it. Prints a line for each, its numbers behind bars:
+ * the C controller, or the wire cell or the queue in C, beside it. Prints a line for each, its numbers behind bars:
  *
  *   what | instructions of the library | of the C controller | stack of the library | of the C controller
  *
  * The stack below this program is painted before a call, and the deepest word that lost its paint is looked for after
  * it. How instructions are counted is in count.h. What an empty call takes is subtracted from both. */
 #include "../plain/held.h"
+#include "../plain/queue.h"
 #include "../plain/wire.h"
 #include "count.h"
 #include "dock.h"
@@ -29,6 +30,7 @@ static uint8_t held[DOCK_WIRE_BYTES];
 static struct plain_wire plain_held;
 static uint8_t samples[WORDS];
 static unsigned samples_len;
+static uint8_t queue[DOCK_QUEUE_BYTES], c_queue[DOCK_QUEUE_BYTES];
 
 /* ---- calls ---- */
 
@@ -49,6 +51,9 @@ static void library_wire_begin(void) { answer = dock_wire_begin(held, sizeof hel
 static void library_listen(void) {
     answer = dock_wire_listen(held, sizeof held, samples, samples_len, words, samples_len);
 }
+static void library_queue_begin(void) { answer = dock_queue_begin(queue, sizeof queue); }
+static void library_put(void) { answer = dock_queue_put(queue, sizeof queue, word); }
+static void library_take(void) { answer = dock_queue_take(queue, sizeof queue); }
 static void c_begin(void) { plain_begin(); }
 static void c_step(void) { answer = plain_step(word); }
 static void c_batch(void) { plain_batch(words, words_len, records); }
@@ -56,6 +61,8 @@ static void c_reading(void) { answer = plain_register(0x10); }
 static void c_outputs(void) { answer = plain_pins(); }
 static void c_wire_begin(void) { plain_wire_begin(&plain_held); }
 static void c_listen(void) { answer = (uint32_t)plain_wire_listen(&plain_held, samples, samples_len, words); }
+static void c_put(void) { answer = plain_queue_put(c_queue, sizeof c_queue, word); }
+static void c_take(void) { answer = plain_queue_take(c_queue, sizeof c_queue); }
 
 /* ---- measures ---- */
 
@@ -262,6 +269,44 @@ static void tell_wire(void) {
     tell_samples("33 samples of a bus at 100 kHz, each", traffic, COUNT(traffic));
 }
 
+/* ---- words that wait ---- */
+
+/* Both queues, with so many words waiting from place 100 on, so that they go round. */
+static void make_queues(unsigned waiting) {
+    dock_queue_begin(queue, sizeof queue);
+    dock_queue_begin(c_queue, sizeof c_queue);
+    queue[DOCK_QUEUE_AT_START + 1] = c_queue[DOCK_QUEUE_AT_START + 1] = 100;
+    word = 0xA000;
+    for (unsigned i = 0; i < waiting; i++) {
+        library_put();
+        c_put();
+    }
+}
+
+static void tell_put(const char *what, unsigned waiting) {
+    make_queues(waiting);
+    tell_both(what, library_put, c_put);
+}
+
+static void tell_take(const char *what, unsigned waiting) {
+    make_queues(waiting);
+    tell_both(what, library_take, c_take);
+}
+
+static void tell_queue(void) {
+    tell_put("a put, none waits", 0);
+    tell_put("a put, 64 wait", 64);
+    tell_put("a put, 127 wait", 127);
+    tell_put("a put refused with 7", 128);
+    tell_take("a take, one waits", 1);
+    tell_take("a take, 64 wait", 64);
+    tell_take("a take, 128 wait", 128);
+    tell_take("a take refused with 8", 0);
+    make_queues(1);
+    queue[DOCK_QUEUE_AT_VERSION] = c_queue[DOCK_QUEUE_AT_VERSION] = 0;
+    tell_both("a take refused with 1", library_take, c_take);
+}
+
 int main(void) {
     calibrate();
     printf("events\n");
@@ -272,6 +317,8 @@ int main(void) {
     tell_batch("33 bus events, each", commands, COUNT(commands));
     printf("samples\n");
     tell_wire();
+    printf("words\n");
+    tell_queue();
     printf("calls\n");
     tell_both("dock_begin: a fresh image", library_begin, c_begin);
     tell_both("dock_outputs: an image loaded and tested", library_outputs, c_outputs);
@@ -280,6 +327,7 @@ int main(void) {
     fill(ticks, COUNT(ticks));
     tell_alone("dock_replay of 33 words", library_replay);
     tell_both("dock_wire_begin: a fresh image", library_wire_begin, c_wire_begin);
+    tell_alone("dock_queue_begin: an empty queue", library_queue_begin);
     tell_alone("dock_pack", library_pack);
     tell_alone("dock_unpack", library_unpack);
     tell_alone("dock_version", library_version);

@@ -1,7 +1,7 @@
 /* Moving and filling memory: what the compiled library asks for by these names, on a processor that has nothing beneath
  * it. On Arm they are those of the run-time ABI and no others, so that a firmware's own memcpy stays its own; and all
- * are weak. Compiled with -fno-builtin, or a loop here would be taken for a call of itself, and for size: what the
- * library moves or fills is a few bytes, seldom aligned, so that nothing else would pay. */
+ * are weak. Compiled with -fno-builtin, or a loop here would be taken for a call of itself, and for size: but for the
+ * ring of a queue, what the library fills is a few bytes, seldom aligned, and it moves none. */
 #include <stddef.h>
 #include <stdint.h>
 

@@ -38,7 +38,7 @@ gather() {
     done
     cp -r "$here/dock" "$release/rust"
     cp "$here"/c/{firmware,store,board,chip,example,driver}.c "$release/example/"
-    cp "$here"/c/{firmware,ring,store,board,chip,driver}.h "$release/example/"
+    cp "$here"/c/{firmware,store,board,chip,driver}.h "$release/example/"
     cp "$here"/c/firmware.in "$here"/{firmware,example}.out "$release/example/"
     cp "$top/docs/TRUST.md" "$release/TRUST.md"
     report >"$release/REPORT.md"
@@ -72,9 +72,9 @@ toolchain of ours, no C library, no heap.
   needs nothing else: the functions that move memory are in it, on Arm by the names of its run-time ABI, on a RISC-V by
   those of C, and all are weak; where a C library of the firmware's comes before it on the command line, those are taken.
 - \`rust/\`: a safe wrapper, without std; its build script takes the library of the processor that is built for.
-- \`example/\`: a firmware's main loop to copy (\`firmware.c\`, \`ring.h\`, \`store.c\`, what it asks of a board: \`board.h\`), a
-  board made of text to try it on (\`board.c\`, \`chip.c\`, \`firmware.in\`), one event at a time (\`example.c\`), and what
-  drives SDAT on a processor that has no bus cell (\`driver.c\`), to copy too.
+- \`example/\`: a firmware's main loop to copy (\`firmware.c\`, \`store.c\`, what it asks of a board: \`board.h\`), a
+  board made of text to try it on (\`board.c\`, \`chip.c\`, \`firmware.in\`), one event at a time (\`example.c\`), and
+  what drives SDAT on a processor that has no bus cell (\`driver.c\`), to copy too.
 - \`REPORT.md\`: code, stack and instructions on each processor. \`TRUST.md\`: what is proved and what must be believed; it
   names files of the repository that this was made of. \`SUMS\`: the sums below, for \`sha256sum -c SUMS\`.
 

@@ -6,6 +6,8 @@ held_calls=(dock_begin dock_step dock_batch dock_reading dock_outputs)
 plain_calls=(plain_begin plain_step plain_batch plain_register plain_pins)
 wire_calls=(dock_wire_begin dock_wire_listen)
 plain_wire_calls=(plain_wire_begin plain_wire_listen)
+queue_calls=(dock_queue_put dock_queue_take)
+plain_queue_calls=(plain_queue_put plain_queue_take)
 
 # link_calls MAP CALL.. -- FILE..: what these calls need, and nothing else.
 link_calls() {
@@ -40,17 +42,22 @@ bytes() {
     sections "$1" | awk '{ sum += $1 } END { print sum + 0 }'
 }
 
-# Into $firmware/PROCESSOR: all thirteen calls, those on a held state, the wire cell's, and those in C like them.
+# Into $firmware/PROCESSOR: all sixteen calls, those on a held state, the wire cell's, the queue's, and those in C like
+# them.
 map_sizes() {
     local folder=$firmware/$1
     flags_of "$1"
-    link_calls "$folder/all.map" "${held_calls[@]}" "${wire_calls[@]}" \
+    link_calls "$folder/all.map" "${held_calls[@]}" "${wire_calls[@]}" dock_queue_begin "${queue_calls[@]}" \
         dock_{name_kind,held_byte,replay,pack,unpack,version} -- "$folder/libdock.a"
     link_calls "$folder/held.map" "${held_calls[@]}" -- "$folder/libdock.a"
-    link_calls "$folder/loop-calls.map" dock_{begin,step,outputs,pack,version} -- "$folder/libdock.a"
+    link_calls "$folder/loop-calls.map" dock_{begin,step,outputs,pack,version} dock_queue_begin "${queue_calls[@]}" \
+        -- "$folder/libdock.a"
     link_calls "$folder/wire.map" "${wire_calls[@]}" -- "$folder/libdock.a"
     compile_small "$folder/wire.o" "$here/plain/wire.c"
     link_calls "$folder/plain-wire.map" "${plain_wire_calls[@]}" -- "$folder/wire.o" "$folder/memory.o"
+    link_calls "$folder/queue.map" "${queue_calls[@]}" -- "$folder/libdock.a"
+    compile_small "$folder/queue.o" "$here/plain/queue.c"
+    link_calls "$folder/plain-queue.map" "${plain_queue_calls[@]}" -- "$folder/queue.o" "$folder/memory.o"
     compile_small "$folder/held.o" "$here/plain/held.c"
     link_calls "$folder/plain.map" "${plain_calls[@]}" -- "$folder/held.o" "$folder/memory.o"
     (level=(-Os) && compile_small "$folder/held-small.o" "$here/plain/held.c")
@@ -58,7 +65,7 @@ map_sizes() {
 }
 
 measure() {
-    image measure "$1" "$small/measure.c" "$here"/plain/{held,wire}.c
+    image measure "$1" "$small/measure.c" "$here"/plain/{held,wire,queue}.c
     emulate measure "$1" </dev/null >"$firmware/$1/measured"
 }
 
@@ -86,6 +93,9 @@ held_bytes() { bytes "$firmware/$1/held.map"; }
 wire_bytes() { bytes "$firmware/$1/wire.map"; }
 plain_wire_bytes() { bytes "$firmware/$1/plain-wire.map"; }
 wire_bytes_ratio() { ratio "$(wire_bytes "$1")" "$(plain_wire_bytes "$1")"; }
+queue_bytes() { bytes "$firmware/$1/queue.map"; }
+plain_queue_bytes() { bytes "$firmware/$1/plain-queue.map"; }
+queue_bytes_ratio() { ratio "$(queue_bytes "$1")" "$(plain_queue_bytes "$1")"; }
 loop_bytes() { bytes "$firmware/$1/loop-calls.map"; }
 plain_bytes() { bytes "$firmware/$1/plain.map"; }
 plain_small_bytes() { bytes "$firmware/$1/plain-small.map"; }
@@ -111,8 +121,11 @@ tell_sizes() {
     row "library's wire cell: wire_begin, wire_listen" wire_bytes
     row "wire cell in C, with the same flags" plain_wire_bytes
     row "**library's wire cell / in C**" wire_bytes_ratio
-    row "library: all thirteen calls" all_bytes
-    row "library: the five that the main loop calls" loop_bytes
+    row "library's queue: queue_put, queue_take" queue_bytes
+    row "queue in C, with the same flags" plain_queue_bytes
+    row "**library's queue / in C**" queue_bytes_ratio
+    row "library: all sixteen calls" all_bytes
+    row "library: the eight that the main loop calls" loop_bytes
 }
 
 function_bytes() {
@@ -166,6 +179,8 @@ $(tell_measured "$1" batches "instructions by a batch")
 
 $(tell_measured "$1" samples "instructions of a sample, by one call" "cell in C")
 
+$(tell_measured "$1" words "instructions of the queue" "queue in C")
+
 $(tell_measured "$1" calls "instructions of the other calls")
 
 END
@@ -215,15 +230,15 @@ report() {
 # What a dock pays for the library on a small processor
 
 The library is made for each processor from the module of the one for x86-64; the C controller beside it is
-\`plain/plain.c\`, the first kind's job by hand, with its state in place, and the wire cell in C \`plain/wire.c\`. All are
-compiled by the toolchain's clang at
+\`plain/plain.c\`, the first kind's job by hand, with its state in place, the wire cell in C \`plain/wire.c\`, and the
+queue in C \`plain/queue.c\`, which makes the same tests on the same bytes. All are compiled by the toolchain's clang at
 \`${level[*]}\`. How each number comes about, and what it means: the README of this folder.
 
 ## Code
 
 $(tell_sizes)
 
-A firmware that links with \`--gc-sections\` takes only what it calls. All thirteen calls, one by one:
+A firmware that links with \`--gc-sections\` takes only what it calls. All sixteen calls, one by one:
 
 $(tell_functions)
 
@@ -231,10 +246,11 @@ $(tell_functions)
 
 $(tell_memory)
 
-The library keeps nothing but the state; the stack is free again after each call. The deepest stack is that of the
-deepest byte written. A frame may reserve bytes below it that nothing was written to, and what an interrupt takes comes
-below the frame; so room for a call is the sum of the frames under it: its own, and for step, batch and replay that of
-\`link::held::run\`, besides which only the clearing of a few bytes is called.
+The library keeps nothing but the state, 7 bytes for a wire cell and 261 for a queue where a firmware has one; the stack
+is free again after each call. The deepest stack is that of the deepest byte written. A frame may reserve bytes below it
+that nothing was written to, and what an interrupt takes comes below the frame; so room for a call is the sum of the
+frames under it: its own, and for step, batch and replay that of \`link::held::run\`, besides which only one that
+clears bytes is called.
 
 $(tell_frames)
 

@@ -12,8 +12,15 @@ pub enum Value {
     Record(Vec<Value>),
     /// The number of the variant, and its fields.
     Variant(usize, Vec<Value>),
-    /// To a local, or to an element of it.
-    Pointer(usize, Option<usize>),
+    Pointer(Spot),
+}
+
+/// A local of a running call, or a part of it: the call, the local, and the fields and elements on the way.
+#[derive(Clone, Debug)]
+pub struct Spot {
+    frame: usize,
+    local: usize,
+    path: Vec<usize>,
 }
 
 impl Value {
@@ -47,7 +54,7 @@ pub struct Program<'a> {
     pub types: Types,
 }
 
-/// A call that is running.
+/// A call that is running; or, beneath the first one, what it is lent.
 struct Frame {
     types: Vec<Type>,
     locals: Vec<Option<Value>>,
@@ -69,15 +76,27 @@ impl<'a> Program<'a> {
 
     /// The function's result. Each copy of a value that has at least `least` bytes is added to `copies`.
     pub fn call(&self, name: &str, arguments: Vec<Value>, least: usize, copies: &mut Copies) -> Value {
-        let function = self.functions.get(name).unwrap_or_else(|| panic!("there is no function `{}`", name));
-        let types: Vec<Type> = function.part(4).chain().into_iter().map(|local| type_of(local.part(1))).collect();
-        let mut locals = vec![None; types.len()];
-        for (place, argument) in locals[1..].iter_mut().zip(arguments) {
-            *place = Some(argument);
-        }
-        let mut run = Run { program: self, least, copies, frame: Frame { types, locals } };
-        run.statement(function.part(5));
-        run.frame.locals[0].take().expect("a result")
+        Run { program: self, least, copies, frames: Vec::new() }.result(name, arguments)
+    }
+
+    /// The same of a function whose first argument is bytes that are lent to it.
+    pub fn call_lent(
+        &self,
+        name: &str,
+        bytes: &mut Vec<u8>,
+        others: Vec<Value>,
+        least: usize,
+        copies: &mut Copies,
+    ) -> Value {
+        let lent = Value::Record(bytes.iter().map(|&byte| Value::Int(byte.into())).collect());
+        let types = vec![Type::Array(Box::new(Type::Int(8)), bytes.len())];
+        let first = Value::Pointer(Spot { frame: 0, local: 0, path: Vec::new() });
+        let slice = Value::Record(vec![first, Value::Int(bytes.len() as u64)]);
+        let mut run = Run { program: self, least, copies, frames: vec![Frame { types, locals: vec![Some(lent)] }] };
+        let result = run.result(name, std::iter::once(slice).chain(others).collect());
+        let after = run.frames[0].locals[0].take().expect("the bytes");
+        (0..bytes.len()).for_each(|at| bytes[at] = after.field(at).int() as u8);
+        result
     }
 }
 
@@ -104,7 +123,8 @@ struct Run<'p, 'a, 'c> {
     program: &'p Program<'a>,
     least: usize,
     copies: &'c mut Copies,
-    frame: Frame,
+    /// The innermost call is the last.
+    frames: Vec<Frame>,
 }
 
 impl Run<'_, '_, '_> {
@@ -115,71 +135,82 @@ impl Run<'_, '_, '_> {
         }
     }
 
-    /// The local, the fields on the way, and the type of a place. The tag of an enum is its field 0.
-    fn resolve(&self, place: &Tree) -> (usize, Vec<usize>, Type) {
-        let mut local = place.part(1).number() as usize;
-        let mut of = self.frame.types[local].clone();
-        let mut path = Vec::new();
+    fn result(&mut self, name: &str, arguments: Vec<Value>) -> Value {
+        let function = self.program.functions.get(name).unwrap_or_else(|| panic!("there is no function `{}`", name));
+        let types: Vec<Type> = function.part(4).chain().into_iter().map(|local| type_of(local.part(1))).collect();
+        let mut locals = vec![None; types.len()];
+        for (place, argument) in locals[1..].iter_mut().zip(arguments) {
+            *place = Some(argument);
+        }
+        self.frames.push(Frame { types, locals });
+        self.statement(function.part(5));
+        self.frames.pop().and_then(|mut frame| frame.locals[0].take()).expect("a result")
+    }
+
+    /// Where a place is, and its type. The tag of an enum is its field 0.
+    fn resolve(&self, place: &Tree) -> (Spot, Type) {
+        let mut spot = Spot { frame: self.frames.len() - 1, local: place.part(1).number() as usize, path: Vec::new() };
+        let mut of = self.frames[spot.frame].types[spot.local].clone();
         let mut variant = None;
         for step in place.part(2).chain() {
             match step.head() {
                 "field" => {
                     let index = step.part(1).number() as usize;
-                    of = self.field_type(&of, variant.take(), index);
-                    path.push(index);
+                    of = self.part_type(&of, variant.take(), index);
+                    spot.path.push(index);
                 }
                 "variant" => variant = Some(step.part(1).number() as usize),
                 "deref" => {
-                    let (to, element) = self.pointer(local);
-                    local = to;
-                    path = element.into_iter().collect();
+                    spot = self.pointed(&spot);
                     of = type_of(step.part(1));
                 }
                 other => panic!("`{}` is no step to a place", other),
             }
         }
-        (local, path, of)
+        (spot, of)
     }
 
-    fn pointer(&self, local: usize) -> (usize, Option<usize>) {
-        match self.frame.locals[local] {
-            Some(Value::Pointer(to, element)) => (to, element),
-            _ => panic!("local {} is no pointer", local),
+    fn pointed(&self, spot: &Spot) -> Spot {
+        match self.at(spot) {
+            Value::Pointer(to) => to,
+            other => panic!("{:?} is no pointer", other),
         }
     }
 
-    fn field_type(&self, of: &Type, variant: Option<usize>, index: usize) -> Type {
+    fn part_type(&self, of: &Type, variant: Option<usize>, index: usize) -> Type {
         match of {
+            Type::Array(element, _) => (**element).clone(),
+            Type::Struct(fields) => fields[index].clone(),
             Type::Named(name) => match (self.program.types.declared(name), index) {
                 (Declared::Struct(fields), _) => fields[index].clone(),
                 (Declared::Enum(_), 0) => Type::Int(8),
                 (Declared::Enum(variants), _) => variants[variant.expect("a variant")][index - 1].clone(),
             },
-            _ => panic!("{:?} has no fields", of),
+            _ => panic!("{:?} has no parts", of),
         }
     }
 
-    fn read(&self, place: &Tree) -> (Value, Type) {
-        let (local, path, of) = self.resolve(place);
-        let mut value = self.frame.locals[local].as_ref().expect("a value");
-        for index in path {
+    fn at(&self, spot: &Spot) -> Value {
+        let mut value = self.frames[spot.frame].locals[spot.local].as_ref().expect("a value");
+        for &index in &spot.path {
             match value {
-                Value::Variant(tag, _) if index == 0 => return (Value::Int(*tag as u64), of),
+                Value::Variant(tag, _) if index == 0 => return Value::Int(*tag as u64),
                 Value::Variant(_, fields) => value = &fields[index - 1],
                 _ => value = value.field(index),
             }
         }
-        (value.clone(), of)
+        value.clone()
     }
 
     fn write(&mut self, place: &Tree, value: Value) {
-        let (local, path, _) = self.resolve(place);
-        if path.is_empty() {
-            self.frame.locals[local] = Some(value);
+        let (spot, _) = self.resolve(place);
+        let local = &mut self.frames[spot.frame].locals[spot.local];
+        if spot.path.is_empty() {
+            *local = Some(value);
             return;
         }
-        let mut target = self.frame.locals[local].as_mut().expect("a value");
-        for index in path {
+        let mut target = local.as_mut().expect("a value");
+        for index in spot.path {
             target = target.field_mut(index);
         }
         *target = value;
@@ -188,13 +219,14 @@ impl Run<'_, '_, '_> {
     fn operand(&mut self, tree: &Tree) -> Value {
         match tree.head() {
             "copy" => {
-                let (value, of) = self.read(tree.part(1));
+                let (spot, of) = self.resolve(tree.part(1));
                 self.count(&of);
-                value
+                self.at(&spot)
             }
             "int" => Value::Int(tree.part(2).number()),
             "true" => Value::Int(1),
             "false" => Value::Int(0),
+            "unit" => Value::Record(Vec::new()),
             other => panic!("`{}` is no operand that this program knows", other),
         }
     }
@@ -202,7 +234,7 @@ impl Run<'_, '_, '_> {
     /// A new value of the type of `place`: of an enum, the first operand is the variant's number.
     fn aggregate(&mut self, parts: &Tree, place: &Tree) -> Value {
         let mut values: Vec<Value> = parts.chain().into_iter().map(|part| self.operand(part)).collect();
-        let (_, _, of) = self.resolve(place);
+        let (_, of) = self.resolve(place);
         match &of {
             Type::Named(name) if matches!(self.program.types.declared(name), Declared::Enum(_)) => {
                 let tag = values.remove(0).int() as usize;
@@ -212,18 +244,21 @@ impl Run<'_, '_, '_> {
         }
     }
 
-    /// Offsets are in bytes, and pointers only go into arrays.
-    fn element_size(&self, local: usize) -> usize {
-        match &self.frame.types[local] {
-            Type::Array(element, _) => self.program.types.size(element),
-            other => panic!("{:?} is no array", other),
+    /// So many bytes further, into an array or on from an element of one.
+    fn offset(&self, mut spot: Spot, bytes: usize) -> Spot {
+        let local = self.frames[spot.frame].types[spot.local].clone();
+        let of = spot.path.iter().fold(local, |of, &index| self.part_type(&of, None, index));
+        match &of {
+            Type::Array(element, _) => spot.path.push(bytes / self.program.types.size(element)),
+            _ => *spot.path.last_mut().expect("an element") += bytes / self.program.types.size(&of),
         }
+        spot
     }
 
     fn binary(&self, operator: &str, a: Value, b: Value) -> Value {
-        if let Value::Pointer(local, _) = a {
+        if let Value::Pointer(spot) = a {
             assert_eq!(operator, "offset");
-            return Value::Pointer(local, Some(b.int() as usize / self.element_size(local)));
+            return Value::Pointer(self.offset(spot, b.int() as usize));
         }
         let (a, b) = (a.int(), b.int());
         Value::Int(match operator {
@@ -233,6 +268,7 @@ impl Run<'_, '_, '_> {
             "div" => a / b,
             "rem" => a % b,
             "eq" => u64::from(a == b),
+            "ne" => u64::from(a != b),
             "lt" => u64::from(a < b),
             "le" => u64::from(a <= b),
             "and" => a & b,
@@ -244,7 +280,7 @@ impl Run<'_, '_, '_> {
     fn value(&mut self, tree: &Tree, place: &Tree) -> Value {
         match tree.head() {
             "rvOpd" => self.operand(tree.part(1)),
-            "addrOf" => Value::Pointer(tree.part(1).part(1).number() as usize, None),
+            "addrOf" => Value::Pointer(self.resolve(tree.part(1)).0),
             "aggregate" => self.aggregate(tree.part(1), place),
             "repeat" => {
                 let value = self.operand(tree.part(1));
@@ -264,8 +300,8 @@ impl Run<'_, '_, '_> {
     fn call(&mut self, tree: &Tree) {
         let name = tree.part(1).part(1).part(1).head();
         let arguments = tree.part(2).chain().into_iter().map(|part| self.operand(part)).collect();
-        let result = self.program.call(name, arguments, self.least, self.copies);
-        let (_, _, of) = self.resolve(tree.part(3));
+        let result = self.result(name, arguments);
+        let (_, of) = self.resolve(tree.part(3));
         self.count(&of);
         self.write(tree.part(3), result);
     }

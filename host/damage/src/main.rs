@@ -7,16 +7,23 @@
 //! of every byte of some of them, pulses, waits and commands of either kind in each of them with either kind in force,
 //! STRINGS random byte strings of an image's length (100,000 if not given) and as many that are made of flags and
 //! numbers, every length from none to twice an image, and what libraries before 5.0 and 4.0 saved of the same states.
+//! Then come the images of a tenth as many queues, and a tenth as many strings, in the same ways.
 
+mod counts;
+mod queues;
 mod strings;
 mod trials;
 
+use queues::Queues;
 use std::process::ExitCode;
 use trials::Trials;
 
 const STATES: usize = 1_000;
 const STRINGS: usize = 100_000;
 const SEED: u64 = 1;
+
+/// One queue for so many states: its image has more bytes, and fewer of them decide.
+const QUEUES: usize = 10;
 
 fn number<T: std::str::FromStr>(argument: Option<String>, default: T) -> Result<T, String> {
     match argument {
@@ -44,7 +51,8 @@ fn main() -> ExitCode {
             return ExitCode::from(2);
         }
     };
-    match Trials::new(seed).everything(states, strings) {
+    let tried = Trials::new(seed).everything(states, strings);
+    match tried.and_then(|()| Queues::new(seed).everything(states / QUEUES, strings / QUEUES)) {
         Ok(()) => ExitCode::SUCCESS,
         Err(told) => {
             print!("mismatch: seed {}, {}", seed, told);

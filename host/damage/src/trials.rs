@@ -1,9 +1,9 @@
 //! Which damaged states are tried, and what is tried with each.
 
+use crate::counts::Table;
 use crate::strings::{self, KIND, NAMED, PROGRESS, TICKS, USED};
 use model::{is_image, Controller, STATE_BYTES};
 use std::collections::HashSet;
-use std::fmt;
 use trial::{hex, lists, Call, Held, Mismatch, Random, Room, TOO_MANY};
 
 /// A reached state comes after a list of at most so many words and names.
@@ -18,51 +18,20 @@ const THOROUGH: usize = 8;
 /// Where a pulse or a wait is fit in both kinds, in one or in none.
 const EDGES: [u16; 14] = [0, 1, 199, 200, 201, 255, 256, 559, 560, 561, 1199, 1200, 1201, 0xFFFF];
 
-/// What was tried, and what became of it.
-#[derive(Clone, Copy, Default)]
-struct Counts {
-    tried: usize,
-    no_image: usize,
-    unfit: usize,
-    accepted: usize,
-    words: usize,
-}
-
-impl std::ops::AddAssign for Counts {
-    fn add_assign(&mut self, more: Counts) {
-        self.tried += more.tried;
-        self.no_image += more.no_image;
-        self.unfit += more.unfit;
-        self.accepted += more.accepted;
-        self.words += more.words;
-    }
-}
-
-impl fmt::Display for Counts {
-    fn fmt(&self, f: &mut fmt::Formatter) -> fmt::Result {
-        let Counts { tried, no_image, unfit, accepted, words } = self;
-        write!(f, "{:>9} {:>9} {:>9} {:>9} {:>11}", tried, no_image, unfit, accepted, words)
-    }
-}
-
 pub struct Trials {
     random: Random,
-    part: Counts,
-    total: Counts,
+    table: Table,
 }
 
 impl Trials {
     pub fn new(seed: u64) -> Trials {
-        Trials { random: Random::new(seed, 0), part: Counts::default(), total: Counts::default() }
+        Trials { random: Random::new(seed, 0), table: Table::default() }
     }
 
     pub fn everything(&mut self, states: usize, strings: usize) -> Result<(), String> {
         let reached = self.reached(states)?;
         let thorough = &reached[..THOROUGH.min(reached.len())];
-        println!(
-            "{:<28} {:>9} {:>9} {:>9} {:>9} {:>11}",
-            "damaged states", "tried", "no image", "unfit", "accepted", "words after"
-        );
+        Table::head("damaged states", "words after");
         self.part("single bits flipped", |trials| reached.iter().try_for_each(|image| trials.flips(image)))?;
         self.part("every value of every byte", |trials| thorough.iter().try_for_each(|image| trials.values(image)))?;
         self.part("pulses and waits at edges", |trials| reached.iter().try_for_each(|image| trials.ticks(image)))?;
@@ -71,17 +40,15 @@ impl Trials {
         self.part("strings made of fields", |trials| trials.made(strings))?;
         self.part("every length", |trials| thorough.iter().try_for_each(|image| trials.lengths(image)))?;
         self.part("what an older one saved", |trials| reached.iter().try_for_each(|image| trials.older(image)))?;
-        println!("{:<28} {}", "all", self.total);
+        self.table.end();
         let second = reached.iter().filter(|image| image[KIND] == 1).count();
         println!("images of {} reached states, {} of the second kind, damaged: 0 mismatches", reached.len(), second);
         Ok(())
     }
 
     fn part(&mut self, name: &str, run: impl Fn(&mut Trials) -> Result<(), String>) -> Result<(), String> {
-        self.part = Counts::default();
         run(self).map_err(|told| format!("{}: {}", name, told))?;
-        println!("{:<28} {}", name, self.part);
-        self.total += self.part;
+        self.table.row(name);
         Ok(())
     }
 
@@ -201,15 +168,15 @@ impl Trials {
     /// The model says what the bytes are; every call must treat them so.
     fn judge(&mut self, bytes: &[u8]) -> Result<(), String> {
         let mut held = Held::of_bytes(bytes);
-        self.part.tried += 1;
+        self.table.part.tried += 1;
         let outcome = match held.model().cloned() {
             Some(dock) => {
-                self.part.accepted += 1;
+                self.table.part.accepted += 1;
                 self.goes_on(&mut held, &dock)
             }
             None => {
-                self.part.no_image += usize::from(!is_image(bytes));
-                self.part.unfit += usize::from(is_image(bytes));
+                self.table.part.no_image += usize::from(!is_image(bytes));
+                self.table.part.unfit += usize::from(is_image(bytes));
                 self.is_refused(&mut held)
             }
         };
@@ -242,7 +209,7 @@ impl Trials {
         questions(held)?;
         in_batches(held, by_batches)?;
         questions(held)?;
-        self.part.words += list.iter().filter(|call| call.word().is_some()).count();
+        self.table.part.after += list.iter().filter(|call| call.word().is_some()).count();
         Ok(())
     }
 }
@@ -278,7 +245,7 @@ fn shown(list: &[Call]) -> String {
     list.iter().map(Call::to_string).collect::<Vec<_>>().join(" ")
 }
 
-fn tell(what: &str, mismatch: &Mismatch) -> String {
+pub fn tell(what: &str, mismatch: &Mismatch) -> String {
     let Mismatch { asked, library, model } = mismatch;
     format!("{}\n  asked: {}\n  library: {}\n  model: {}\n", what, asked, library, model)
 }

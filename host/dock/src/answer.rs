@@ -112,7 +112,7 @@ mod tests {
     fn an_answer_is_a_refusal_or_its_value() {
         assert_eq!(value(0x0000_C0BF), Ok(0xC0BF));
         assert_eq!(value(0x0005_0000), Err(Error::Refused(Refusal::TooManyWords)));
-        assert_eq!(value(0x0007_0000), Err(Error::Unnamed(Unnamed { what: "refusal", number: 7 })));
+        assert_eq!(value(0x0009_0000), Err(Error::Unnamed(Unnamed { what: "refusal", number: 9 })));
         assert_eq!(value(0x1000_0000), Err(Error::Unnamed(Unnamed { what: "refusal", number: 0x1000 })));
         assert_eq!(numbers(0x0000_90BF), Ok((0x90, 0xBF)));
         assert_eq!(numbers(0x0100_0FBF), Ok((0x10F, 0xBF)));

@@ -12,6 +12,8 @@ pub enum Refusal {
     ShortAnswers = 4,
     TooManyWords = 5,
     WideStraps = 6,
+    QueueFull = 7,
+    QueueEmpty = 8,
     NoSuchKind = 14,
 }
 
@@ -27,6 +29,8 @@ impl TryFrom<u16> for Refusal {
             4 => Refusal::ShortAnswers,
             5 => Refusal::TooManyWords,
             6 => Refusal::WideStraps,
+            7 => Refusal::QueueFull,
+            8 => Refusal::QueueEmpty,
             14 => Refusal::NoSuchKind,
             _ => return Err(Unnamed { what: "refusal", number: u32::from(number) }),
         })
@@ -42,6 +46,8 @@ impl fmt::Display for Refusal {
             Refusal::ShortAnswers => "fewer than four record bytes for each word, or fewer places than samples",
             Refusal::TooManyWords => "more than 16,384 words or samples",
             Refusal::WideStraps => "straps above 15",
+            Refusal::QueueFull => "128 words wait already",
+            Refusal::QueueEmpty => "no word waits",
             Refusal::NoSuchKind => "a number that no kind of controller has",
         })
     }

@@ -32,6 +32,9 @@ extern "C" {
         words: *mut u16,
         words_len: u64,
     ) -> u32;
+    fn dock_queue_begin(queue: *mut u8, queue_len: u64) -> u32;
+    fn dock_queue_put(queue: *mut u8, queue_len: u64, word: u16) -> u32;
+    fn dock_queue_take(queue: *mut u8, queue_len: u64) -> u32;
 }
 
 /// A length has 64 bits in the interface, whatever a pointer has.
@@ -104,4 +107,19 @@ pub fn wire_listen(held: &mut [u8], samples: &[u8], words: &mut [u16]) -> u32 {
     let (samples_at, words_at) = (samples.as_ptr(), words.as_mut_ptr());
     // SAFETY: three slices, each with its own length; the two lent for writing overlap nothing.
     unsafe { dock_wire_listen(held.as_mut_ptr(), len(held), samples_at, len(samples), words_at, len(words)) }
+}
+
+pub fn queue_begin(queue: &mut [u8]) -> u32 {
+    // SAFETY: the slice is lent for writing, and its own length goes with it.
+    unsafe { dock_queue_begin(queue.as_mut_ptr(), len(queue)) }
+}
+
+pub fn queue_put(queue: &mut [u8], word: u16) -> u32 {
+    // SAFETY: the slice is lent for writing, and its own length goes with it.
+    unsafe { dock_queue_put(queue.as_mut_ptr(), len(queue), word) }
+}
+
+pub fn queue_take(queue: &mut [u8]) -> u32 {
+    // SAFETY: the slice is lent for writing, and its own length goes with it.
+    unsafe { dock_queue_take(queue.as_mut_ptr(), len(queue)) }
 }

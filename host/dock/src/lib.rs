@@ -19,7 +19,8 @@
 //! It is a controller of the first [`Kind`], the DBC98C51, or of the second, the CDP1020 of older backplanes:
 //! [`Dock::name_kind`] says which, from the next RESET on. A whole history in one call ([`replay`]) is of the first.
 //!
-//! Where a processor has no bus cell, a [`Wire`] makes the bus events of samples of the two lines.
+//! Where a processor has no bus cell, a [`Wire`] makes the bus events of samples of the two lines. Words that come while
+//! the main loop is busy wait in a [`Queue`].
 //!
 //! Any words, any numbers, any bytes and slices of any length are taken: a call returns, and what it cannot do it
 //! refuses and changes nothing. No call panics. A number that this version has no name for is an error.
@@ -36,6 +37,7 @@ pub mod ffi;
 mod held;
 mod kind;
 mod outputs;
+mod queue;
 mod register;
 mod reply;
 mod version;
@@ -47,6 +49,7 @@ pub use event::{read, write, Event};
 pub use held::Dock;
 pub use kind::Kind;
 pub use outputs::Outputs;
+pub use queue::Queue;
 pub use register::{Bay, BayState, Register, SecondRegister, Status};
 pub use reply::Reply;
 pub use version::{check_library, version, Version, WRITTEN_FOR};
@@ -68,6 +71,12 @@ pub const WIRE_BYTES: usize = 7;
 
 /// The most samples of one call; a longer list is refused with [`Refusal::TooManyWords`].
 pub const MOST_SAMPLES: usize = 16_384;
+
+/// The bytes of the image of a queue.
+pub const QUEUE_BYTES: usize = 261;
+
+/// The most words that wait; one more is refused with [`Refusal::QueueFull`].
+pub const QUEUE_WORDS: usize = 128;
 
 /// The lines in a sample.
 pub const SDAT: u8 = 1;

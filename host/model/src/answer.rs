@@ -15,6 +15,10 @@ pub enum Refusal {
     TooManyWords = 5,
     /// Packing: straps that do not fit into four bits.
     WideStraps = 6,
+    /// A put while as many words wait as there are places.
+    QueueFull = 7,
+    /// A take while no word waits.
+    QueueEmpty = 8,
     /// Naming: a number that no kind has.
     NoSuchKind = 14,
 }

@@ -24,6 +24,7 @@ mod first;
 mod image;
 mod kind;
 pub mod numbers;
+mod queue;
 mod second;
 #[cfg(test)]
 mod unreached;
@@ -35,4 +36,5 @@ pub use controller::Controller;
 pub use event::{pack, unpack, Event};
 pub use image::{is_image, STATE_BYTES};
 pub use kind::Kind;
+pub use queue::{is_queue_image, Queue, QUEUE_BYTES, QUEUE_WORDS};
 pub use wire::{Wire, MOST_SAMPLES, WIRE_BYTES};

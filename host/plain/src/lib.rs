@@ -1,5 +1,5 @@
 //! Safe calls into the C controller of `plain.c`, which has the shape of the library's calls and is of the first kind
-//! alone, and into the wire cell of `wire.c`.
+//! alone, into the wire cell of `wire.c`, and into the queue of `queue.c`, which has the library's image and answers.
 
 extern "C" {
     fn plain_replay(words: *const u16, words_len: usize, records: *mut u8, records_len: usize) -> u32;
@@ -7,6 +7,8 @@ extern "C" {
     fn plain_outputs(words: *const u16, words_len: usize) -> u32;
     fn plain_wire_begin(wire: *mut Wire);
     fn plain_wire_listen(wire: *mut Wire, samples: *const u8, count: usize, words: *mut u16) -> usize;
+    fn plain_queue_put(queue: *mut u8, queue_len: u64, word: u16) -> u32;
+    fn plain_queue_take(queue: *mut u8, queue_len: u64) -> u32;
 }
 
 /// Replays the words from a fresh controller and writes a record for each.
@@ -52,4 +54,14 @@ impl Wire {
         // SAFETY: both pointers are good for as many elements as there are samples.
         unsafe { plain_wire_listen(self, samples.as_ptr(), samples.len(), words.as_mut_ptr()) }
     }
+}
+
+pub fn queue_put(queue: &mut [u8], word: u16) -> u32 {
+    // SAFETY: the slice is lent for writing, and its own length goes with it.
+    unsafe { plain_queue_put(queue.as_mut_ptr(), queue.len() as u64, word) }
+}
+
+pub fn queue_take(queue: &mut [u8]) -> u32 {
+    // SAFETY: the slice is lent for writing, and its own length goes with it.
+    unsafe { plain_queue_take(queue.as_mut_ptr(), queue.len() as u64) }
 }

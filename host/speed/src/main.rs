@@ -7,6 +7,7 @@
 //! records, and the buffers must be equal at the end.
 
 mod lists;
+mod queue;
 mod sides;
 mod wire;
 
@@ -167,5 +168,6 @@ fn main() -> ExitCode {
     compare_second_kind(repeats);
     check_linearity(repeats);
     wire::compare(repeats);
+    queue::compare(repeats);
     ExitCode::SUCCESS
 }

@@ -6,7 +6,7 @@ use dock::ffi;
 use model::{numbers, Answer, Controller, Refusal, MOST_WORDS, STATE_BYTES};
 
 /// Bytes on either side of what is lent, which no call may touch.
-const GUARD: usize = 16;
+pub(crate) const GUARD: usize = 16;
 
 /// So many of the bytes that differ are told.
 const SHOWN_BYTES: usize = 8;
@@ -30,12 +30,12 @@ pub struct Held {
 }
 
 /// A part lent, between its guards.
-fn lent(bytes: &mut [u8]) -> &mut [u8] {
+pub(crate) fn lent(bytes: &mut [u8]) -> &mut [u8] {
     let end = bytes.len() - GUARD;
     &mut bytes[GUARD..end]
 }
 
-fn guarded(length: usize) -> Vec<u8> {
+pub(crate) fn guarded(length: usize) -> Vec<u8> {
     pattern(GUARD + length + GUARD)
 }
 
@@ -135,10 +135,7 @@ impl Held {
 
     /// The answer, and then every byte of the state with its guards.
     fn agree(&mut self, library: u32, model: u32, asked: impl Fn() -> String) -> Result<(), Mismatch> {
-        if library != model {
-            let shown = |answer| format!("{:08X}h", answer);
-            return Err(Mismatch { asked: asked(), library: shown(library), model: shown(model) });
-        }
+        answers_agree(library, model, &asked)?;
         if let Some(dock) = &self.model {
             lent(&mut self.expected).copy_from_slice(&dock.image());
         }
@@ -146,8 +143,16 @@ impl Held {
     }
 }
 
+pub(crate) fn answers_agree(library: u32, model: u32, asked: impl Fn() -> String) -> Result<(), Mismatch> {
+    if library == model {
+        return Ok(());
+    }
+    let shown = |answer| format!("{:08X}h", answer);
+    Err(Mismatch { asked: asked(), library: shown(library), model: shown(model) })
+}
+
 /// Places are counted from the first byte after the guard; those before it are below 0.
-fn bytes_agree(library: &[u8], model: &[u8], asked: impl Fn() -> String) -> Result<(), Mismatch> {
+pub(crate) fn bytes_agree(library: &[u8], model: &[u8], asked: impl Fn() -> String) -> Result<(), Mismatch> {
     if library == model {
         return Ok(());
     }

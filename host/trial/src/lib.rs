@@ -4,11 +4,13 @@ mod bytes;
 mod call;
 pub mod held;
 pub mod lists;
+mod queue;
 mod random;
 mod shrink;
 
 pub use bytes::{hex, pattern, Room};
 pub use call::Call;
 pub use held::{Held, Mismatch, TOO_MANY};
+pub use queue::HeldQueue;
 pub use random::Random;
 pub use shrink::shrink;
