@@ -5,6 +5,7 @@ use mathlib.Core.Bool.{Bool, true, false}
 use mathlib.Core.List.{List, [], _∷_, _++_, map}
 use lib.ListN.{length, getD, take, drop}
 use mir.Val.{boolByte}
+use Rattle.pairs.specs.Pairs.{twoBytes}
 use Rattle.bus.specs.declared.Progress.{Progress}
 use Rattle.bus.specs.declared.Progress.the-variants.{Idle, Opened, Addressed, Register, Data, Again, Reading, Writing, Sending}
 use Rattle.kind.specs.Kind.{isSecond, kindBy}
@@ -14,7 +15,7 @@ use Rattle.machine.specs.Record.{bay0, bay1}
 use Rattle.machine.specs.declared.Machine.{Machine}
 use Rattle.dock.specs.declared.Controller.{Controller}
 use Rattle.image.specs.Layout.{LAYOUT, BYTES}
-use Rattle.image.specs.Save.{flagByte, twoBytes, bayFlags, secondFlags, secondNumbers, flagsOf, numbersOf, progressBytes, saved}
+use Rattle.image.specs.Save.{flagByte, bayFlags, secondFlags, secondNumbers, flagsOf, numbersOf, progressBytes, saved}
 use Rattle.image.specs.Load.{byteAt, isSet, bayBy, secondBy, machineIn}
 use Rattle.image.proofs.Elements.{by-elements}
 

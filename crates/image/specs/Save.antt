@@ -1,7 +1,8 @@
 -- The bytes of a state: every field of its record, in the layout's order.
-use Prim.Native.Nat.{ℕ, _/_, _%_}
+use Prim.Native.Nat.{ℕ}
 use mathlib.Core.Bool.{Bool, cond}
 use mathlib.Core.List.{List, [], _∷_, _++_, map}
+use Rattle.pairs.specs.Pairs.{twoBytes}
 use Rattle.bus.specs.declared.Progress.{Progress}
 use Rattle.bus.specs.declared.Progress.the-variants.{Idle, Opened, Addressed, Register, Data, Again, Reading, Writing, Sending}
 use Rattle.kind.specs.Kind.{isSecond}
@@ -16,10 +17,6 @@ use Rattle.image.specs.Layout.{LAYOUT}
 
 abbrev pub flagByte : Bool → ℕ
 flagByte b = cond b 1 0
-
--- A number of two bytes, the high one first.
-abbrev pub twoBytes : ℕ → List ℕ
-twoBytes n = n / 256 ∷ n % 256 ∷ []
 
 -- The fourteen flags and the nine numbers of a bay, of whose pulse and wait each has two bytes.
 abbrev pub bayFlags : Bay → List Bool

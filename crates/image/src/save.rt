@@ -1,17 +1,11 @@
 // A state as bytes, in the layout's order.
 ghost use mathlib.Core.Path.{_≡_};
 ghost use Rattle.dock.specs.Record.{freshController};
-ghost use Rattle.image.specs.Save.{twoBytes, progressBytes, saved};
+ghost use Rattle.image.specs.Save.{progressBytes, saved};
 use bay::Bay;
 use bus::Progress;
 use dock::Controller;
-
-// A number of two bytes, the high one first.
-fn two_bytes(number: u16) -> [u8; 2]
-    ensures { λ r. ⌜ r ≡ twoBytes number ⌝ }
-{
-    [(number / 256) as u8, (number % 256) as u8]
-}
+use pairs::two_bytes;
 
 // Which command in progress, and the bytes that it holds.
 fn progress_bytes(progress: Progress) -> [u8; 3]

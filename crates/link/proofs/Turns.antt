@@ -12,7 +12,7 @@ use Rattle.queue.specs.declared.Answer.{Answer}
 use Rattle.queue.specs.declared.Outcome.{Outcome}
 use Rattle.queue.specs.declared.Outcome.the-variants.{Unfit}
 use Rattle.queue.proofs.Theorems.{accepted-put, accepted-take}
-use Rattle.queue_image.specs.Save.{saved, savedIn, putIn, takenIn}
+use Rattle.queue_image.specs.Save.{saved, savedIn, putIn, takeIn}
 use Rattle.queue_image.specs.Load.{isImage, queueIn}
 use Rattle.queue_image.proofs.RoundTrip.{parts}
 use Rattle.queue_image.proofs.Changed.{put-kept, take-kept}
@@ -43,8 +43,8 @@ module _ (bytes : List ℕ) (a : Answer) (i : isImage bytes ≡ true) (octets : 
       let same : putIn (a .queue) w bytes ≡ saved (a .queue) = rw accepted (put-kept bytes i octets w) in
       rw same (left-saved bytes (put w) a i e n)
 
-  pub left-take : a ≡ callOf (queueIn bytes) take → Left bytes take (a .outcome) (takenIn (a .queue) bytes)
+  pub left-take : a ≡ callOf (queueIn bytes) take → Left bytes take (a .outcome) (takeIn (a .queue) bytes)
   left-take e =
       let accepted = ap (λ (a : Answer). a .queue) (e ∙ accepted-take (queueIn bytes) (rw e at n)) in
-      let same : takenIn (a .queue) bytes ≡ saved (a .queue) = rw accepted (take-kept bytes i octets) in
+      let same : takeIn (a .queue) bytes ≡ saved (a .queue) = rw accepted (take-kept bytes i octets) in
       rw same (left-saved bytes take a i e n)

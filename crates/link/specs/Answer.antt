@@ -1,5 +1,7 @@
 -- The one layout of an answer of the library: the refusal in bits 23-16, and a value below it. Document 01's answers as such numbers.
 use Prim.Native.Nat.{ℕ, _+_, _*_}
+use mathlib.Core.Bool.{cond}
+use lib.Dec.{eqb}
 use Rattle.dock.specs.Answers.{toldRefusal, toldValue}
 use Rattle.dock.specs.Held.{heldRefusal, heldValue}
 use Rattle.dock.specs.Name.{namingRefusal}
@@ -11,6 +13,10 @@ use Rattle.batch.specs.declared.Outcome.{Outcome}
 
 abbrev pub both : ℕ → ℕ → ℕ
 both refusal value = refusal * 65536 + value
+
+-- Beginning, on so many bytes: refusal 1 where they are not as many as an image has.
+abbrev pub begunAs : ℕ → ℕ → ℕ
+begunAs width bytes = cond (eqb bytes width) (both 0 0) (both 1 0)
 
 -- A batch: its refusal and its count.
 abbrev pub batchedAs : Outcome → ℕ

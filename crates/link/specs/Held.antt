@@ -23,15 +23,15 @@ use Rattle.batch.specs.declared.Outcome.the-variants as outcome
 use Rattle.image.specs.Layout.{BYTES}
 use Rattle.image.specs.Save.{saved}
 use Rattle.image.specs.Load.{isImage, stateIn}
-use Rattle.link.specs.Answer.{both}
+use Rattle.link.specs.Answer.{begunAs}
 
 -- What the state of an image gives, or else, where the bytes are no image, this.
 abbrev pub inImage : {A : Type 0} → List ℕ → (Controller → A) → A → A
 inImage bytes gives none = cond (isImage bytes) (gives (stateIn bytes)) none
 
--- Beginning: refusal 1 where the bytes are not as many as an image has.
+-- Beginning.
 unfoldable pub begun : ℕ → ℕ
-begun bytes = cond (eqb bytes BYTES) (both 0 0) (both 1 0)
+begun bytes = begunAs BYTES bytes
 
 unfoldable pub begunIn : List ℕ → List ℕ
 begunIn bytes = cond (eqb (length bytes) BYTES) (saved freshController) bytes

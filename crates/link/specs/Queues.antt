@@ -14,15 +14,15 @@ use Rattle.queue.specs.declared.Outcome.the-variants.{Unfit}
 use Rattle.queue_image.specs.Layout.{BYTES}
 use Rattle.queue_image.specs.Save.{savedIn}
 use Rattle.queue_image.specs.Load.{isImage, queueIn}
-use Rattle.link.specs.Answer.{both}
+use Rattle.link.specs.Answer.{both, begunAs}
 
 -- What the queue of an image gives, or else, where the bytes are no image, this.
 abbrev pub inImage : {A : Type 0} → List ℕ → (Queue → A) → A → A
 inImage bytes gives none = cond (isImage bytes) (gives (queueIn bytes)) none
 
--- Beginning: refusal 1 where the bytes are not as many as an image has.
+-- Beginning.
 unfoldable pub begun : ℕ → ℕ
-begun bytes = cond (eqb bytes BYTES) (both 0 0) (both 1 0)
+begun bytes = begunAs BYTES bytes
 
 unfoldable pub begunIn : List ℕ → List ℕ
 begunIn bytes = savedIn emptyQueue bytes

@@ -13,15 +13,15 @@ use Rattle.wire.specs.Image.{BYTES, isImage, saved, wireIn}
 use Rattle.wire.specs.declared.Wire.{Wire}
 use Rattle.wire.specs.declared.Outcome.{Outcome}
 use Rattle.wire.specs.declared.Outcome.the-variants.{Done, Unfit, TooFewPlaces, TooManySamples}
-use Rattle.link.specs.Answer.{both}
+use Rattle.link.specs.Answer.{both, begunAs}
 
 -- What the held state of an image gives, or else, where the bytes are no image, this.
 abbrev pub inImage : {A : Type 0} → List ℕ → (Wire → A) → A → A
 inImage bytes gives none = cond (isImage bytes) (gives (wireIn bytes)) none
 
--- Beginning: refusal 1 where the bytes are not as many as an image has.
+-- Beginning.
 unfoldable pub begun : ℕ → ℕ
-begun bytes = cond (eqb bytes BYTES) (both 0 0) (both 1 0)
+begun bytes = begunAs BYTES bytes
 
 unfoldable pub begunIn : List ℕ → List ℕ
 begunIn bytes = cond (eqb (length bytes) BYTES) (saved freshWire) bytes

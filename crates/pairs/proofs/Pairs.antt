@@ -7,6 +7,7 @@ use mathlib.Core.List.{List, [], _∷_, _++_}
 use lib.ListN.{length, getD, set, take, drop}
 use Rattle.pairs.specs.Pairs.{wide, wordsIn, loneIn, bytesOf}
 use Rattle.pairs.proofs.wide.Reads as wide-reads
+use Rattle.pairs.proofs.two_bytes.Reads as two-bytes-reads
 
 pub record HighFirst : Type 0 where
   pub read : wordsIn (0xC0 ∷ 0xBF ∷ 0x40 ∷ 0x90 ∷ 0x60 ∷ []) ≡ 0xC0BF ∷ 0x4090 ∷ []
@@ -87,3 +88,6 @@ written-again (suc n) (high ∷ (low ∷ rest)) l o =
 
 pub wide-determined : (high low r r′ : ℕ) → wide-reads.Post tt (high, (low, tt)) r (high, (low, tt)) → wide-reads.Post tt (high, (low, tt)) r′ (high, (low, tt)) → r ≡ r′
 wide-determined high low r r′ p q = p ∙ sym q
+
+pub two-bytes-determined : (n : ℕ) (r r′ : List ℕ) → two-bytes-reads.Post tt (n, tt) r (n, tt) → two-bytes-reads.Post tt (n, tt) r′ (n, tt) → r ≡ r′
+two-bytes-determined n r r′ p q = p ∙ sym q

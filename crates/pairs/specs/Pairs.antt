@@ -1,10 +1,14 @@
 -- Words as bytes, high byte first (document 01, "Bench examples", and every number of two bytes in an image).
 use Prim.Native.Nat.{ℕ, _+_, _*_, _/_, _%_}
-use mathlib.Core.List.{List, [], _∷_}
+use mathlib.Core.List.{List, [], _∷_, _++_}
 
 -- The number of two bytes.
 abbrev pub wide : ℕ → ℕ → ℕ
 wide high low = high * 256 + low
+
+-- The two bytes of a number.
+abbrev pub twoBytes : ℕ → List ℕ
+twoBytes n = n / 256 ∷ n % 256 ∷ []
 
 -- The words in a list of bytes.
 unfoldable pub wordsIn : List ℕ → List ℕ
@@ -21,4 +25,4 @@ loneIn (high ∷ (low ∷ rest)) = loneIn rest
 -- The bytes of words.
 unfoldable pub bytesOf : List ℕ → List ℕ
 bytesOf [] = []
-bytesOf (w ∷ ws) = w / 256 ∷ w % 256 ∷ bytesOf ws
+bytesOf (w ∷ ws) = twoBytes w ++ bytesOf ws

@@ -11,7 +11,7 @@ use Rattle.pairs.specs.Pairs.{bytesOf}
 use Rattle.pairs.proofs.Pairs.{bytes-set}
 use Rattle.queue.specs.Turns.{withWord, withoutOldest}
 use Rattle.queue.specs.declared.Queue.{Queue}
-use Rattle.queue_image.specs.Save.{saved, over, newest, putIn, takenIn}
+use Rattle.queue_image.specs.Save.{saved, over, newest, putIn, takeIn}
 use Rattle.queue_image.specs.Load.{isImage, queueIn}
 use Rattle.queue_image.proofs.RoundTrip.{parts, ring-long, bytes-back}
 
@@ -26,8 +26,8 @@ module _ (bytes : List ℕ) (image : isImage bytes ≡ true) (octets : (i : ℕ)
   same = bytes-back bytes image octets
 
   -- Start and count.
-  take-saved : q′ .words ≡ queueIn bytes .words → takenIn q′ bytes ≡ saved q′
-  unfolding takenIn saved bytesOf
+  take-saved : q′ .words ≡ queueIn bytes .words → takeIn q′ bytes ≡ saved q′
+  unfolding takeIn saved bytesOf
   take-saved e = rw (eq-eqb (length bytes) 261 (parts bytes image .long), ← same, e) refl
 
   -- The count, and a word.
@@ -57,5 +57,5 @@ module _ (bytes : List ℕ) (image : isImage bytes ≡ true) (octets : (i : ℕ)
       let there : (q .start + q .count) % 128 ≡ newest (q .start) (q .count + 1) = omega arith in
       put-saved bytes image octets (withWord q w) w refl (ap (λ (k : ℕ). set (q .words) k w) there)
 
-  pub take-kept : takenIn (withoutOldest (queueIn bytes)) bytes ≡ saved (withoutOldest (queueIn bytes))
+  pub take-kept : takeIn (withoutOldest (queueIn bytes)) bytes ≡ saved (withoutOldest (queueIn bytes))
   take-kept = take-saved bytes image octets (withoutOldest (queueIn bytes)) refl

@@ -16,7 +16,7 @@ saved q = LAYOUT ∷ bytesOf (q .start ∷ q .count ∷ q .words)
 unfoldable pub savedIn : Queue → List ℕ → List ℕ
 savedIn q bytes = cond (eqb (length bytes) BYTES) (saved q) bytes
 
--- The bytes from a place on, in place of as many.
+-- New bytes in place of as many, from a place on.
 abbrev pub over : ℕ → List ℕ → List ℕ → List ℕ
 over at new bytes = take at bytes ++ (new ++ drop (length new) (drop at bytes))
 
@@ -30,5 +30,5 @@ putIn q w bytes =
     cond (eqb (length bytes) BYTES) (over (WORDS + 2 * newest (q .start) (q .count)) (bytesOf (w ∷ [])) (over COUNT (bytesOf (q .count ∷ [])) bytes)) bytes
 
 -- What a take changes: start and count.
-unfoldable pub takenIn : Queue → List ℕ → List ℕ
-takenIn q bytes = cond (eqb (length bytes) BYTES) (over START (bytesOf (q .start ∷ q .count ∷ [])) bytes) bytes
+unfoldable pub takeIn : Queue → List ℕ → List ℕ
+takeIn q bytes = cond (eqb (length bytes) BYTES) (over START (bytesOf (q .start ∷ q .count ∷ [])) bytes) bytes

@@ -1,4 +1,4 @@
-// The ring's words, two bytes each.
+// Words written as bytes, two each.
 ghost use mathlib.Core.Path.{_≡_};
 ghost use Prim.Native.Nat.{_*_};
 ghost use lib.ListN.{length};

@@ -4,7 +4,7 @@ ghost use mathlib.Core.List.{[], _∷_};
 ghost use lib.ListN.{length};
 ghost use Rattle.pairs.specs.Pairs.{bytesOf};
 ghost use Rattle.queue_image.specs.Layout.{BYTES, START};
-ghost use Rattle.queue_image.specs.Save.{over, savedIn, newest, putIn, takenIn};
+ghost use Rattle.queue_image.specs.Save.{over, savedIn, newest, putIn, takeIn};
 use crate::BYTES;
 use crate::COUNT;
 use crate::LAYOUT;
@@ -58,7 +58,7 @@ pub fn save_put(queue: Queue, word: u16, image: &mut [u8])
 
 // After a take, what it changed: start and count.
 pub fn save_take(queue: Queue, image: &mut [u8])
-    ensures { λ _. ⌜ now (image .exit) ≡ takenIn queue (now (image .entry)) ⌝ }
+    ensures { λ _. ⌜ now (image .exit) ≡ takeIn queue (now (image .entry)) ⌝ }
 {
     if image.len() != BYTES {
         return;
