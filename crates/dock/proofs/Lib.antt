@@ -8,11 +8,13 @@ pub mod LeftHeld
 pub mod Parts
 pub mod Remreq
 pub mod Refusals
+pub mod Sharing
 pub mod Letr
 pub mod Wait
 pub mod Inputs
 pub mod Replies
 pub mod Goes
+pub mod Shown
 pub mod Run
 pub mod Determined
 pub mod Examples

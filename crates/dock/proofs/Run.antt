@@ -37,6 +37,15 @@ answers-next s ws i h = rw (take-suc ws i 0 h) (answers-append s (take i ws) (ge
 
 -- ---- calls
 
+-- None, and one.
+pub calls-none : (s : Controller) → afterCalls s [] ≡ s
+unfolding afterCalls
+calls-none s = refl
+
+pub calls-one : (s : Controller) (c : Call) → afterCalls s (c ∷ []) ≡ afterCall s c
+unfolding afterCalls
+calls-one s c = refl
+
 pub calls-append : (s : Controller) (cs ds : List Call) → afterCalls s (cs ++ ds) ≡ afterCalls (afterCalls s cs) ds
 unfolding afterCalls
 calls-append s [] ds = refl

@@ -1,6 +1,8 @@
 -- The paper's numbers of an answer (document 01, "Replies and refusal numbers"): the table's columns, case by case.
 use Prim.Native.Nat.{ℕ}
 use Rattle.bus.specs.Reply.{replyNumber, replyByte}
+use Rattle.bus.specs.declared.Reply.{Reply}
+use Rattle.bus.specs.declared.Reply.the-variants.{Nothing}
 use Rattle.dock.specs.declared.Answer.{Answer}
 use Rattle.dock.specs.declared.Answer.the-variants.{Done, Unfit, StrayBit, NotStarted}
 use Rattle.dock.specs.declared.Told.{Told}
@@ -17,6 +19,13 @@ replyOf (Done r o) = replyNumber r
 replyOf Unfit = 0
 replyOf (StrayBit o) = 0
 replyOf NotStarted = 0
+
+-- What the host sees of it, as the bus has it: nothing with a refusal.
+abbrev pub replyIn : Answer → Reply
+replyIn (Done r o) = r
+replyIn Unfit = Nothing
+replyIn (StrayBit o) = Nothing
+replyIn NotStarted = Nothing
 
 abbrev pub byteOf : Answer → ℕ
 byteOf (Done r o) = replyByte r

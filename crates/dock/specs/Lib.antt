@@ -4,6 +4,7 @@ pub mod Answers
 pub mod Step
 pub mod Name
 pub mod Held
+pub mod Shared
 pub mod Refusals
 pub mod Run
 pub mod Examples

@@ -1,8 +1,9 @@
 // The paper's numbers of an answer (document 01, "Replies and refusal numbers").
 ghost use mathlib.Core.Path.{_≡_};
-ghost use Rattle.dock.specs.Answers.{refusalOf, replyOf, byteOf, outputsOf, toldRefusal, toldValue};
+ghost use Rattle.dock.specs.Answers.{refusalOf, replyOf, replyIn, byteOf, outputsOf, toldRefusal, toldValue};
 use crate::Answer;
 use crate::Told;
+use bus::Reply;
 
 impl Answer {
     pub fn refusal(self) -> u8
@@ -24,6 +25,18 @@ impl Answer {
             Answer::Unfit => 0,
             Answer::StrayBit(_) => 0,
             Answer::NotStarted => 0,
+        }
+    }
+
+    // The reply as the bus has it: with a refusal none.
+    pub fn said(self) -> Reply
+        ensures { λ r. ⌜ r ≡ replyIn self ⌝ }
+    {
+        match self {
+            Answer::Done(reply, _) => reply,
+            Answer::Unfit => Reply::Nothing,
+            Answer::StrayBit(_) => Reply::Nothing,
+            Answer::NotStarted => Reply::Nothing,
         }
     }
 

@@ -1,11 +1,12 @@
 // The controller of a two-bay dock (document 01; document 03): a machine and a bus command in progress, one event word at a
-// time, the call that names its kind, and the questions that change nothing: one register's reading, the nine outputs and the
-// byte that an open read holds.
+// time, the call that names its kind, and the questions that change nothing: one register's reading, the nine outputs, the
+// byte that an open read holds, and how it stands on a bus that it shares.
 mod answers;
 mod events;
 mod held;
 mod name;
 mod record;
+mod shared;
 mod step;
 
 use bus::Progress;
@@ -93,4 +94,15 @@ pub enum HeldByte {
     Nothing,
     // The state isn't fit.
     Unfit,
+}
+
+// How a controller stands on a bus that it shares with others.
+pub struct Standing {
+    pub fit: bool,
+    // It has had a RESET: before that it hears nothing.
+    pub started: bool,
+    // Its own address byte for writing.
+    pub address: u8,
+    // A read of it is open: it drives the next TAKE.
+    pub reading: bool,
 }
