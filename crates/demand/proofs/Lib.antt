@@ -8,3 +8,5 @@ pub mod Demand3
 pub mod Held
 pub mod Trace
 pub mod Wires
+pub mod Chassis
+pub mod OnChassis

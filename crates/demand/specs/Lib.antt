@@ -7,3 +7,4 @@ pub mod Words
 pub mod Plain
 pub mod Broken
 pub mod Held
+pub mod Chassis

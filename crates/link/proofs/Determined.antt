@@ -20,6 +20,7 @@ use Rattle.link.proofs.queues.dock_queue_begin.Reads as queue-begin-rea
 use Rattle.link.proofs.queues.dock_queue_put.Reads as queue-put-reads
 use Rattle.link.proofs.queues.dock_queue_take.Reads as queue-take-reads
 use Rattle.link.proofs.held.dock_held_byte.Reads as held-byte-reads
+use Rattle.link.proofs.lists.dock_chassis_step.Reads as chassis-step-reads
 
 pub version-determined : (r s : ℕ) → version-reads.Post tt tt r tt → version-reads.Post tt tt s tt → r ≡ s
 version-determined r s p q = p ∙ sym q
@@ -107,3 +108,9 @@ pub queue-take-determined :
     → queue-take-reads.Post κs (queue, tt) r (left, tt) → queue-take-reads.Post κs (queue, tt) s (left′, tt)
     → (r ≡ s) × (now left ≡ now left′)
 queue-take-determined κs queue r s left left′ p q = (p .0 ∙ sym (q .0), p .1 ∙ sym (q .1))
+
+pub chassis-step-determined :
+    (κs : _) (states : RefT (List ℕ)) (n w r s : ℕ) (left left′ : RefT (List ℕ))
+    → chassis-step-reads.Post κs (states, (n, (w, tt))) r (left, (n, (w, tt))) → chassis-step-reads.Post κs (states, (n, (w, tt))) s (left′, (n, (w, tt)))
+    → (r ≡ s) × (now left ≡ now left′)
+chassis-step-determined κs states n w r s left left′ p q = (p .0 ∙ sym (q .0), p .1 ∙ sym (q .1))

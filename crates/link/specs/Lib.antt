@@ -4,3 +4,4 @@ pub mod Events
 pub mod Held
 pub mod Wires
 pub mod Queues
+pub mod Lists
