@@ -1,3 +1,4 @@
 pub mod Inputs
 pub mod InTurn
+pub mod Alone
 pub mod Theorems

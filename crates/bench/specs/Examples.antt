@@ -6,7 +6,9 @@ use Rattle.script.specs.Text.{characters}
 use Rattle.script.specs.Lines.{argumentOf, lineOf}
 use Rattle.script.specs.declared.Line.{Line}
 use Rattle.script.specs.declared.Line.the-variants.{Blank, Unknown, Misused, Mishandled, Does}
+use Rattle.bench.specs.Docks.{levelsAt}
 use Rattle.bench.specs.Orders.{wordsOf, freshBench, heeded}
+use Rattle.bench.specs.declared.Bench.{Bench}
 
 pub record Example : Type 0 where
   pub levels : ℕ
@@ -92,6 +94,8 @@ plain =
     ∷ from 0xFF "save" []
     ∷ from 0xFF "load 01" []
     ∷ from 0xFF "kind 2" []
+    ∷ from 0xFF "chassis 2" []
+    ∷ from 0xFF "dock 1" []
     ∷ []
 
 unfoldable pub examples : List Example
@@ -112,8 +116,12 @@ pub record Loading : Type 0 where
   pub typed : String
   pub words : List ℕ
 
+-- The words of a line, over the levels of the dock that is chosen.
+abbrev pub wordsOn : Bench → String → List ℕ
+wordsOn b typed = wordsTyped (levelsAt (b .dock) (b .levels)) typed
+
 abbrev pub loadedWords : Loading → List ℕ
-loadedWords e = wordsTyped (heeded (characters (e .before)) freshBench .bench .levels) (e .typed)
+loadedWords e = wordsOn (heeded (characters (e .before)) freshBench .bench) (e .typed)
 
 abbrev loading : String → String → ℕ → Loading
 loading b t w = record { before = b; typed = t; words = w ∷ [] }

@@ -2,6 +2,7 @@
 -- then of bay 1, bit 7 to 0; 0 is asserted.
 use Prim.Native.Nat.{ℕ, _+_, _*_, _-_}
 use mathlib.Core.Bool.{Bool, cond}
+use mathlib.Core.List.{List}
 use lib.Bits.{bitAnd, bitOr}
 use lib.Dec.{eqb}
 use Rattle.bay.specs.Record.{N1394, NUSB, NREMREQ, level}
@@ -12,12 +13,9 @@ use Rattle.event.specs.declared.Event.{Event}
 use Rattle.event.specs.declared.Event.the-variants.{Start, Stop, Byte, Take, Pins, Tick, Reset, Timeout}
 use Rattle.event.specs.declared.Unpacked.{Unpacked}
 use Rattle.event.specs.declared.Unpacked.the-variants.{Accepted, StrayBit}
-use Rattle.dock.specs.Answers.{refusalOf}
-use Rattle.dock.specs.declared.Answer.{Answer}
-
--- Before any are given, no input is asserted.
-abbrev pub AT-REST : ℕ
-AT-REST = 0xFF
+use Rattle.chassis.specs.Numbers.{answerRefusal}
+use Rattle.chassis.specs.declared.Answer.{Answer}
+use Rattle.bench.specs.Docks.{levelsAt, withLevels}
 
 -- Inputs, each by its weight, go to 0 or to 1; the others stay.
 unfoldable pub pulled : ℕ → ℕ → ℕ
@@ -37,13 +35,14 @@ givenBy Tick l = l
 givenBy (Reset s p short) l = p
 givenBy Timeout l = l
 
-abbrev pub givenIn : Unpacked → ℕ → ℕ
-givenIn (Accepted e) l = givenBy e l
-givenIn StrayBit l = l
+-- .. to the dock with the number that stands beside the word.
+abbrev pub givenIn : Unpacked → ℕ → List ℕ → List ℕ
+givenIn (Accepted e) d ls = withLevels d (givenBy e (levelsAt d ls)) ls
+givenIn StrayBit d ls = ls
 
 -- A word that is refused gives none.
-unfoldable pub levelsAfter : Answer → Unpacked → ℕ → ℕ
-levelsAfter a u l = cond (eqb (refusalOf a) 0) (givenIn u l) l
+unfoldable pub levelsAfter : Answer → Unpacked → ℕ → List ℕ → List ℕ
+levelsAfter a u d ls = cond (eqb (answerRefusal a) 0) (givenIn u d ls) ls
 
 -- The levels that a dock has stored, those of its last samples: what an image brings with it.
 abbrev pub weighed : Bool → ℕ → ℕ

@@ -1,3 +1,4 @@
+pub mod Docks
 pub mod Levels
 pub mod Orders
 pub mod Examples

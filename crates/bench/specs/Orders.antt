@@ -1,23 +1,27 @@
--- What a line does to the dock on the bench: the event words that it sends, one after the other.
+-- What a line does to the docks on the bench: the event words that it sends, one after the other.
 use Prim.Native.Nat.{ℕ, _+_, _*_, _/_}
 use mathlib.Core.Bool.{Bool, true, false, cond}
 use mathlib.Core.List.{List, [], _∷_, _++_, map}
+use lib.Dec.{ltb}
 use lib.ListN.{replicate}
 use Rattle.event.specs.Words.{packed, packWord, unpacked}
 use Rattle.event.specs.declared.Event.{Event}
 use Rattle.event.specs.declared.Event.the-variants.{Start, Stop, Byte, Take, Pins, Tick}
 use Rattle.dock.specs.Record.{freshController}
-use Rattle.dock.specs.Step.{stepOf}
 use Rattle.dock.specs.Name.{nameOf}
+use Rattle.dock.specs.declared.Controller.{Controller}
+use Rattle.chassis.specs.Judge.{MOST}
+use Rattle.chassis.specs.Held.{steppedOf}
 use Rattle.paste.specs.Findings.{isFit, pastedOf}
 use Rattle.paste.specs.declared.Pasted.{Pasted}
 use Rattle.script.specs.Arguments.{furtherValues}
 use Rattle.script.specs.Lines.{argumentOf, lineOf}
 use Rattle.script.specs.declared.Order.{Order}
-use Rattle.script.specs.declared.Order.the-variants.{Event as One, Pull, Raise, Ticks, Word, Write, Read, Address, Outputs, Registers, Help, Save, Load, Name}
+use Rattle.script.specs.declared.Order.the-variants.{Event as One, Pull, Raise, Ticks, Word, Write, Read, Address, Outputs, Registers, Help, Save, Load, Name, Docks, Choose}
 use Rattle.script.specs.declared.Line.{Line}
 use Rattle.script.specs.declared.Line.the-variants.{Blank, Unknown, Misused, Mishandled, Does}
-use Rattle.bench.specs.Levels.{AT-REST, pulled, raised, levelsAfter, levelsIn}
+use Rattle.bench.specs.Docks.{AT-REST, recordAt, withRecord, levelsAt, withLevels}
+use Rattle.bench.specs.Levels.{pulled, raised, levelsAfter, levelsIn}
 use Rattle.bench.specs.declared.Bench.{Bench}
 use Rattle.bench.specs.declared.Sent.{Sent}
 use Rattle.bench.specs.declared.Heeded.{Heeded}
@@ -42,7 +46,7 @@ takeWords more = replicate more (wordFor (Take true)) ++ (wordFor (Take false) �
 abbrev pub readWords : ℕ → ℕ → ℕ → List ℕ
 readWords a r more = wordFor Start ∷ byteWord a ∷ byteWord r ∷ wordFor Start ∷ byteWord (readByte a) ∷ takeWords more
 
--- The words of an order and the text beside it, to an address byte and over the levels as they are.
+-- The words of an order and the text beside it, to an address byte and over the levels of the chosen dock as they are.
 unfoldable pub wordsOf : ℕ → ℕ → Order → List ℕ → List ℕ
 wordsOf a l (One e) t = wordFor e ∷ []
 wordsOf a l (Pull inputs) t = wordFor (Pins (pulled l inputs)) ∷ []
@@ -58,18 +62,35 @@ wordsOf a l Help t = []
 wordsOf a l Save t = []
 wordsOf a l Load t = []
 wordsOf a l (Name n) t = []
+wordsOf a l (Docks n) t = []
+wordsOf a l (Choose d) t = []
 
--- A bench that nothing has been done to.
+-- So many docks on the bus, each fresh, the first chosen; what the host speaks to.
+unfoldable pub freshDocks : ℕ → ℕ → Bench
+freshDocks n a =
+    record {
+      chassis = record { records = replicate MOST freshController; count = n };
+      dock = 0;
+      address = a;
+      levels = replicate MOST AT-REST;
+    }
+
+-- A bench that nothing has been done to has one dock.
 unfoldable pub freshBench : Bench
-freshBench = record { controller = freshController; address = 0x90; levels = AT-REST }
+freshBench = freshDocks 1 0x90
 
--- One word, by the single call.
+-- One word, by the chassis's call with the number of the chosen dock.
 unfoldable pub sentOf : Bench → ℕ → Sent
 sentOf b w =
-    let stepped = stepOf (b .controller) w in
+    let stepped = steppedOf (b .chassis) (b .dock) w in
     record {
-      bench = record { controller = stepped .controller; address = b .address; levels = levelsAfter (stepped .answer) (unpacked w) (b .levels) };
-      answer = stepped .answer;
+      bench = record {
+        chassis = stepped .chassis;
+        dock = b .dock;
+        address = b .address;
+        levels = levelsAfter (stepped .told .answer) (unpacked w) (b .dock) (b .levels);
+      };
+      answer = stepped .told .answer;
     }
 
 -- Words, one after the other.
@@ -78,19 +99,29 @@ afterWords b [] = b
 afterWords b (w ∷ ws) = afterWords (sentOf b w .bench) ws
 
 abbrev pub sending : Order → List ℕ → Bench → Bench
-sending o t b = afterWords b (wordsOf (b .address) (b .levels) o t)
+sending o t b = afterWords b (wordsOf (b .address) (levelsAt (b .dock) (b .levels)) o t)
 
--- The call that names a kind is no word: what the host speaks to and the levels stay.
+-- The chosen dock is one of those on the bus. With another record and levels of its own:
+unfoldable pub isThere : Bench → Bool
+isThere b = ltb (b .dock) (b .chassis .count)
+
+abbrev pub becomes : Controller → List ℕ → Bench → Bench
+becomes c ls b = record { chassis = withRecord (b .dock) c (b .chassis); dock = b .dock; address = b .address; levels = ls }
+
+-- The call that names a kind is no word: what the host speaks to and the levels stay. A dock that isn't there is named none.
 unfoldable pub namedAs : ℕ → Bench → Bench
-namedAs n b = record { controller = nameOf (b .controller) n .controller; address = b .address; levels = b .levels }
+namedAs n b = cond (isThere b) (becomes (nameOf (recordAt (b .dock) (b .chassis)) n .controller) (b .levels) b) b
 
--- The image of a fit state: the dock goes on from it, with the levels that it has stored; what the host speaks to stays. Any other
--- text changes nothing.
+-- The image of a fit state: the chosen dock goes on from it, with the levels that it has stored; what the host speaks to stays. Any
+-- other text changes nothing, nor does any for a dock that isn't there.
+abbrev pub goesOn : Pasted → Bench → Bench
+goesOn p b = becomes (p .controller) (withLevels (b .dock) (levelsIn (p .controller .machine)) (b .levels)) b
+
 unfoldable pub loadedBy : Pasted → Bench → Bench
-loadedBy p b =
-    cond (isFit (p .finding)) (record { controller = p .controller; address = b .address; levels = levelsIn (p .controller .machine) }) b
+loadedBy p b = cond (isThere b) (cond (isFit (p .finding)) (goesOn p b) b) b
 
--- An order sends its words; `at` changes the address byte, `load` the dock, by the text beside it, and `kind` its named kind.
+-- An order sends its words; `at` changes the address byte, `load` the chosen dock, by the text beside it, and `kind` its named kind;
+-- `chassis` clears the bench, and `dock` chooses.
 unfoldable pub obeyed : Order → List ℕ → Bench → Bench
 obeyed (One e) t b = sending (One e) t b
 obeyed (Pull inputs) t b = sending (Pull inputs) t b
@@ -99,13 +130,15 @@ obeyed (Ticks n) t b = sending (Ticks n) t b
 obeyed (Word w) t b = sending (Word w) t b
 obeyed (Write r v more) t b = sending (Write r v more) t b
 obeyed (Read r more) t b = sending (Read r more) t b
-obeyed (Address a) t b = record { controller = b .controller; address = a; levels = b .levels }
+obeyed (Address a) t b = record { chassis = b .chassis; dock = b .dock; address = a; levels = b .levels }
 obeyed Outputs t b = b
 obeyed Registers t b = b
 obeyed Help t b = b
 obeyed Save t b = b
 obeyed Load t b = loadedBy (pastedOf t) b
 obeyed (Name n) t b = namedAs n b
+obeyed (Docks n) t b = freshDocks n (b .address)
+obeyed (Choose d) t b = record { chassis = b .chassis; dock = d; address = b .address; levels = b .levels }
 
 -- A line that isn't understood changes nothing.
 abbrev pub does : Line → List ℕ → Bench → Bench

@@ -1,11 +1,14 @@
-// Events and what the dock answers, in words.
+// Events and what the docks answer, in words.
+use crate::Bench;
+use crate::every::are_several;
 use crate::say::say;
 use crate::say::say_byte;
 use crate::say::say_count;
 use crate::say::say_either;
 use crate::say::say_if;
 use bus::Reply;
-use dock::Answer;
+use chassis::Answer;
+use chassis::Refusal;
 use dock::Naming;
 use event::Event;
 use event::Unpacked;
@@ -57,13 +60,81 @@ pub(crate) fn tell_address(address: u8) {
     say(b"\n");
 }
 
+fn is_pins(word: u16) -> bool {
+    let Unpacked::Accepted(event) = event::unpack(word) else {
+        return false;
+    };
+    match event {
+        Event::Pins(_) => true,
+        _ => false,
+    }
+}
+
+fn say_dock(dock: u8) {
+    say(b"dock ");
+    say_count(dock as u64);
+}
+
+// Which dock is chosen, and whether it is there.
+pub(crate) fn tell_choice(dock: u8, there: bool) {
+    say(b"  ");
+    say_dock(dock);
+    say_either(there, b" is chosen\n", b" is chosen, and isn't there\n");
+}
+
+pub(crate) fn tell_absent(dock: u8) {
+    say(b"  there is no ");
+    say_dock(dock);
+    say(b"\n");
+}
+
+pub(crate) fn tell_docks(count: u8) {
+    say(b"  ");
+    say_count(count as u64);
+    say_either(count == 1, b" dock is", b" docks are");
+    say(b" on the bus, without a RESET yet; dock 0 is chosen\n");
+}
+
 // The reply to an event, or why it was refused.
-pub(crate) fn tell_answer(answer: Answer) {
+pub(crate) fn tell_answer(answer: Answer, bench: Bench, word: u16) {
     match answer {
-        Answer::Done(reply, _) => tell_reply(reply),
-        Answer::Unfit => say(b": refused with 1, the state isn't fit"),
-        Answer::StrayBit(_) => say(b": refused with 2, a bit that must be 0 is set"),
-        Answer::NotStarted => say(b": refused with 3, no RESET yet"),
+        Answer::Done(reply) => tell_reply(reply),
+        Answer::Refused(refusal) => tell_refusal(refusal, bench, word),
+    }
+}
+
+fn tell_refusal(refusal: Refusal, bench: Bench, word: u16) {
+    let chassis = bench.chassis;
+    let several = are_several(chassis);
+    match refusal {
+        Refusal::WrongLength => say(b": refused with 9, a bus has one to four docks"),
+        Refusal::Unfit => say_either(
+            several,
+            b": refused with 1, two docks have one address, or both a read open, or a state isn't fit",
+            b": refused with 1, the state isn't fit",
+        ),
+        Refusal::StrayBit => say(b": refused with 2, a bit that must be 0 is set"),
+        Refusal::Absent => {
+            say(b": refused with 10, there is no ");
+            say_dock(bench.dock);
+        }
+        Refusal::NotStarted => {
+            say(b": refused with 3, no RESET yet");
+            if several {
+                tell_unheard(bench.dock, word);
+            }
+        }
+        Refusal::AddressTaken => say(b": refused with 11, a started neighbour has that address"),
+    }
+}
+
+// A PINS is for one dock, and the rest but a RESET are for all.
+fn tell_unheard(dock: u8, word: u16) {
+    if is_pins(word) {
+        say(b" for ");
+        say_dock(dock);
+    } else {
+        say(b" for any dock");
     }
 }
 

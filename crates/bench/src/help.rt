@@ -38,6 +38,12 @@ fn say_use(verb: Verb) {
         Verb::Kind => say(
             b"kind 2          names the second kind of controller, or with 1 the first, from the next RESET on\n",
         ),
+        Verb::Chassis => say(
+            b"chassis 2       so many docks are on one bus from now on, 1 to 4, each without a RESET yet\n",
+        ),
+        Verb::Dock => say(
+            b"dock 1          chooses a dock, counted from 0: the one that RESET, PINS and the lines of one dock are for\n",
+        ),
     }
 }
 
@@ -62,7 +68,7 @@ fn say_hand_use(hand: Hand) {
 
 pub(crate) fn tell_help() {
     say(
-        b"  One order to a line; what follows a # is a comment. Numbers are hex, but for the ticks and the kind.\n",
+        b"  One order to a line; what follows a # is a comment. Numbers are hex, but for the ticks, the kind and the docks.\n",
     );
     say_help(Verb::Reset);
     say_hand_help(Hand::Insert);
@@ -88,6 +94,8 @@ pub(crate) fn tell_help() {
     say_help(Verb::Save);
     say_help(Verb::Load);
     say_help(Verb::Kind);
+    say_help(Verb::Chassis);
+    say_help(Verb::Dock);
     say_help(Verb::Help);
 }
 

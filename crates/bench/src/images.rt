@@ -5,6 +5,10 @@ ghost use Rattle.bench.specs.Orders.{loadedBy};
 use crate::Bench;
 use crate::bays::look;
 use crate::bays::tell_all;
+use crate::docks::is_there;
+use crate::docks::with_levels;
+use crate::docks::with_record;
+use crate::events::tell_absent;
 use crate::levels::levels_in;
 use crate::say::say;
 use crate::say::say_count;
@@ -33,10 +37,15 @@ pub(crate) fn tell_image(controller: Controller) {
     say(b"\n");
 }
 
-// The dock goes on from the image, or stays as it was.
+// The chosen dock goes on from the image, or stays as it was.
 pub(crate) fn load(bench: Bench, text: &[u8]) -> Bench
     ensures { λ r. ⌜ r ≡ loadedBy (pastedOf (now (text .entry))) bench ⌝ }
 {
+    let dock = bench.dock;
+    if !is_there(bench) {
+        tell_absent(dock);
+        return bench;
+    }
     let pasted = paste::read(text);
     let finding = pasted.finding;
     let bytes = pasted.bytes;
@@ -44,10 +53,15 @@ pub(crate) fn load(bench: Bench, text: &[u8]) -> Bench
     if finding.is_fit() {
         say(b"  loaded\n");
         tell_all(look(controller));
+        let chassis = bench.chassis;
+        let before = bench.levels;
+        let next = with_record(chassis, dock, controller);
+        let levels = with_levels(before, dock, levels_in(controller));
         return Bench {
-            controller,
+            chassis: next,
+            dock,
             address: bench.address,
-            levels: levels_in(controller),
+            levels,
         };
     }
     tell_refused(finding, bytes);

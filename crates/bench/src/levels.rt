@@ -1,16 +1,16 @@
-// The levels at the dock's inputs, as they were last given to it.
+// The levels at a dock's inputs, as they were last given to it.
 ghost use Prim.Native.Nat.{_≤_};
 ghost use mathlib.Core.Path.{_≡_};
 ghost use Rattle.event.specs.Words.{unpacked};
 ghost use Rattle.bench.specs.Levels.{pulled, raised, givenBy, levelsAfter, weighed, bayLevels, levelsIn};
+use crate::docks::levels_at;
+use crate::docks::with_levels;
 use bay::Bay;
-use dock::Answer;
+use chassis::Answer;
+use chassis::MOST;
 use dock::Controller;
 use event::Event;
 use event::Unpacked;
-
-// Before any are given, no input is asserted.
-pub(crate) const AT_REST: u8 = 0xFF;
 
 // Inputs, each by its weight, go to 0; the others stay.
 pub(crate) fn pulled(levels: u8, inputs: u8) -> u8
@@ -46,9 +46,9 @@ fn given_by(event: Event, levels: u8) -> u8
     }
 }
 
-// The levels after a word, by the answer to it: a word that is refused gives none.
-pub(crate) fn levels_after(answer: Answer, word: u16, levels: u8) -> u8
-    ensures { λ r. ⌜ r ≡ levelsAfter answer (unpacked word) levels ⌝ }
+// The levels of all docks after a word, by the answer to it, with the number beside it: a word that is refused gives none.
+pub(crate) fn levels_after(answer: Answer, word: u16, dock: u8, levels: [u8; MOST]) -> [u8; MOST]
+    ensures { λ r. ⌜ r ≡ levelsAfter answer (unpacked word) dock levels ⌝ }
 {
     if answer.refusal() != 0 {
         return levels;
@@ -56,7 +56,7 @@ pub(crate) fn levels_after(answer: Answer, word: u16, levels: u8) -> u8
     let Unpacked::Accepted(event) = event::unpack(word) else {
         return levels;
     };
-    given_by(event, levels)
+    with_levels(levels, dock, given_by(event, levels_at(levels, dock)))
 }
 
 // A level as its weight, or nothing.

@@ -1,7 +1,9 @@
-// The bench: a dock to play on. Reads a line at a time, does what it asks and tells what happened; docs/BENCH.md
+// The bench: a dock, or several on one bus, to play on. Reads a line at a time, does what it asks and tells what happened; docs/BENCH.md
 // describes the lines.
 mod bays;
+mod docks;
 mod events;
+mod every;
 mod first_kind;
 mod help;
 mod images;
@@ -16,8 +18,9 @@ mod transfers;
 
 ghost use mathlib.Core.Path.{_≡_};
 ghost use Rattle.bench.specs.Orders.{heeded};
-use dock::Answer;
-use dock::Controller;
+use chassis::Answer;
+use chassis::Chassis;
+use chassis::MOST;
 use help::tell_longer;
 use help::tell_mishandling;
 use help::tell_misuse;
@@ -30,13 +33,15 @@ use say::say;
 use say::say_if;
 use script::Line;
 
-// A dock, and what the lines to come depend on besides.
+// The docks on the bus, and what the lines to come depend on besides.
 struct Bench {
-    controller: Controller,
+    chassis: Chassis,
+    // The chosen one, which may be absent.
+    dock: u8,
     // The byte that a whole command begins with.
     address: u8,
-    // As the last PINS or RESET that was not refused gave them.
-    levels: u8,
+    // Of each dock, as the last PINS or RESET for it that was not refused gave them.
+    levels: [u8; MOST],
 }
 
 // After a word: the bench, and the answer.

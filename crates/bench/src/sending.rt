@@ -1,13 +1,11 @@
-// Event words to the dock, one after the other, and what is told of each.
+// Event words to the docks, one after the other, and what is told of each.
 ghost use mathlib.Core.Path.{_≡_};
 ghost use Rattle.bench.specs.Orders.{wordFor, sentOf};
 use crate::Bench;
-use crate::Seen;
 use crate::Sent;
-use crate::bays::look;
-use crate::bays::tell_changes;
 use crate::events::tell_answer;
 use crate::events::tell_word;
+use crate::every::tell_all_changed;
 use crate::levels::levels_after;
 use crate::say::say;
 use event::Event;
@@ -18,18 +16,22 @@ pub(crate) fn word_for(event: Event) -> u16
     event::pack(event).word()
 }
 
-// One word, by the single call.
+// One word, by the chassis's call with the number of the chosen dock.
 pub(crate) fn step(bench: Bench, word: u16) -> Sent
     ensures { λ r. ⌜ r ≡ sentOf bench word ⌝ }
 {
-    let controller = bench.controller;
-    let stepped = controller.step(word);
-    let next = stepped.controller;
-    let answer = stepped.answer;
-    let levels = levels_after(answer, word, bench.levels);
+    let dock = bench.dock;
+    let before = bench.levels;
+    let chassis = bench.chassis;
+    let stepped = chassis.step(dock as usize, word);
+    let next = stepped.chassis;
+    let told = stepped.told;
+    let answer = told.answer;
+    let levels = levels_after(answer, word, dock, before);
     Sent {
         bench: Bench {
-            controller: next,
+            chassis: next,
+            dock,
             address: bench.address,
             levels,
         },
@@ -44,7 +46,7 @@ pub(crate) fn send(bench: Bench, word: u16) -> Sent
     tell_word(word);
     let sent = step(bench, word);
     let answer = sent.answer;
-    tell_answer(answer);
+    tell_answer(answer, bench, word);
     sent
 }
 
@@ -55,7 +57,9 @@ pub(crate) fn sent(bench: Bench, event: Event) -> Bench
 }
 
 // What comes after the events of a line: their end, and what they changed.
-pub(crate) fn tell_end(before: Seen, after: Bench) {
+pub(crate) fn tell_end(before: Bench, after: Bench) {
+    let old = before.chassis;
+    let new = after.chassis;
     say(b"\n");
-    tell_changes(before, look(after.controller));
+    tell_all_changed(old, new);
 }

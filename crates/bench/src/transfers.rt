@@ -8,7 +8,7 @@ ghost use Rattle.bench.specs.Orders.{byteWord, writeWords, takeWords, re
 use crate::Bench;
 use crate::Took;
 use crate::bays::kind_of;
-use crate::bays::look;
+use crate::every::answering;
 use crate::input::put;
 use crate::registers::tell_taken;
 use crate::sending::send;
@@ -16,7 +16,7 @@ use crate::sending::sent;
 use crate::sending::tell_end;
 use crate::sending::word_for;
 use bus::Reply;
-use dock::Answer;
+use chassis::Answer;
 use event::Event;
 
 // The most bytes that a line reads: one of each register.
@@ -39,14 +39,13 @@ fn give(bench: Bench, more: u8, text: &[u8]) -> Bench
 pub(crate) fn write(bench: Bench, register: u8, value: u8, more: u8, text: &[u8]) -> Bench
     ensures { λ r. ⌜ r ≡ afterWords bench (writeWords (bench .address) register (value ∷ furtherValues (now (text .entry)) more)) ⌝ }
 {
-    let before = look(bench.controller);
     let opened = sent(bench, Event::Start);
     let addressed = sent(opened, Event::Byte(bench.address));
     let chosen = sent(addressed, Event::Byte(register));
     let given = sent(chosen, Event::Byte(value));
     let all = give(given, more, text);
     let next = sent(all, Event::Stop);
-    tell_end(before, next);
+    tell_end(bench, next);
     next
 }
 
@@ -55,7 +54,7 @@ fn keep(given: &mut [u8], at: usize, answer: Answer) -> usize
     requires { ⌜ at ≤ length (now given) ⌝ }
     ensures { λ r. ⌜ r ≤ length (now (given .exit)) ⌝ }
 {
-    let Answer::Done(reply, _) = answer else {
+    let Answer::Done(reply) = answer else {
         return at;
     };
     let Reply::Driven(value) = reply else {
@@ -90,7 +89,6 @@ fn take(bench: Bench, more: u8, given: &mut [u8]) -> Took
 pub(crate) fn read(bench: Bench, register: u8, more: u8) -> Bench
     ensures { λ r. ⌜ r ≡ afterWords bench (readWords (bench .address) register more) ⌝ }
 {
-    let before = look(bench.controller);
     let opened = sent(bench, Event::Start);
     let addressed = sent(opened, Event::Byte(bench.address));
     let chosen = sent(addressed, Event::Byte(register));
@@ -100,7 +98,9 @@ pub(crate) fn read(bench: Bench, register: u8, more: u8) -> Bench
     let took = take(decided, more, &mut given);
     let next = took.bench;
     let count = took.count;
-    tell_end(before, next);
-    tell_taken(kind_of(next.controller), register, &given[..count]);
+    let chassis = next.chassis;
+    let kind = kind_of(answering(chassis, bench.address));
+    tell_end(bench, next);
+    tell_taken(kind, register, &given[..count]);
     next
 }

@@ -15,7 +15,7 @@ use Rattle.script.specs.Text.{characters, blank, leading, trimmed, first
 use Rattle.script.specs.Verbs.{name, verbs, verbOf}
 use Rattle.script.specs.Arguments.{digitOf, isOctet, octetOf, wordOf, pairOf, countFrom, countOf, ticksOf, isSmall, smallOf, furtherOf, followsAt, allFurther, furtherValues}
 use Rattle.script.specs.Hands.{only, bayOf, kindOf, pulls, raises, insertLine, handLine}
-use Rattle.script.specs.Lines.{given, resetLine, takeLine, writeLine, span, readLine, orderLine, verbLine, plain, argumentOf, textLine, lineOf}
+use Rattle.script.specs.Lines.{given, resetLine, takeLine, writeLine, span, readLine, chassisLine, orderLine, verbLine, plain, argumentOf, textLine, lineOf}
 use Rattle.script.specs.Examples.{Example, examples, Argument, arguments, Values, furthers}
 use Rattle.script.specs.declared.Line.{Line}
 use Rattle.script.specs.declared.Number.{Number}
@@ -27,7 +27,7 @@ use Rattle.script.proofs.lines.meaning.Reads as meaning-reads
 
 -- Each of the examples means what it is said to mean.
 pub examples-hold : map (λ (e : Example). lineOf (characters (e .typed))) examples ≡ map (λ (e : Example). e .means) examples
-unfolding examples unpacked indexOf lineOf plain textLine verbLine orderLine handLine insertLine pulls raises only bayOf kindOf given resetLine takeLine writeLine span readLine furtherOf followsAt allFurther octetOf isOctet digitOf wordOf pairOf ticksOf isSmall smallOf countOf countFrom verbOf verbs name spelled spelled64 trimmed first rest leading blank
+unfolding examples unpacked indexOf lineOf plain textLine verbLine orderLine handLine insertLine pulls raises only bayOf kindOf given resetLine takeLine writeLine span readLine chassisLine furtherOf followsAt allFurther octetOf isOctet digitOf wordOf pairOf ticksOf isSmall smallOf countOf countFrom verbOf verbs name spelled spelled64 trimmed first rest leading blank
 examples-hold = refl
 
 pub arguments-hold : map (λ (a : Argument). argumentOf (characters (a .typed))) arguments ≡ map (λ (a : Argument). characters (a .word)) arguments

@@ -4,7 +4,7 @@ use Prim.Native.Char.{code}
 use mathlib.Core.Bool.{Bool, cond, not, _&&_, _||_}
 use mathlib.Core.List.{List}
 use lib.ListN.{length, take}
-use lib.Dec.{eqb, ltb}
+use lib.Dec.{eqb, ltb, leb}
 use Rattle.bytes.specs.Bytes.{indexOf}
 use Rattle.event.specs.Words.{unpacked, isReset}
 use Rattle.event.specs.declared.Event.the-variants as event
@@ -15,9 +15,9 @@ use Rattle.script.specs.Verbs.{name, verbOf}
 use Rattle.script.specs.Arguments.{octetOf, wordOf, pairOf, ticksOf, smallOf, allFurther}
 use Rattle.script.specs.Hands.{handLine}
 use Rattle.script.specs.declared.Verb.{Verb}
-use Rattle.script.specs.declared.Verb.the-variants.{Reset, Pins, Tick, Timeout, Start, Stop, Byte, Take, Word, W, R, At, Out, Regs, Help, Save, Load, Kind}
+use Rattle.script.specs.declared.Verb.the-variants.{Reset, Pins, Tick, Timeout, Start, Stop, Byte, Take, Word, W, R, At, Out, Regs, Help, Save, Load, Kind, Chassis, Dock}
 use Rattle.script.specs.declared.Order.{Order}
-use Rattle.script.specs.declared.Order.the-variants.{Event, Ticks, Word as AWord, Write, Read, Address, Outputs, Registers, Help as Verbs, Save as Saving, Load as Loading, Name}
+use Rattle.script.specs.declared.Order.the-variants.{Event, Ticks, Word as AWord, Write, Read, Address, Outputs, Registers, Help as Verbs, Save as Saving, Load as Loading, Name, Docks, Choose}
 use Rattle.script.specs.declared.Line.{Line}
 use Rattle.script.specs.declared.Line.the-variants.{Blank, Unknown, Misused, Does}
 use Rattle.script.specs.declared.Named.{Named}
@@ -66,6 +66,10 @@ readLine t =
     (given R (pairOf (code "-") t .good) (Read (pairOf (code "-") t .first) (span (pairOf (code "-") t .first) (pairOf (code "-") t .second))))
     (given R (octetOf t .good) (Read (octetOf t .value) 0))
 
+-- `chassis` takes how many docks stand on the bus, one to four.
+unfoldable pub chassisLine : List ℕ → Line
+chassisLine t = given Chassis ((smallOf t .good && leb 1 (smallOf t .value)) && leb (smallOf t .value) 4) (Docks (smallOf t .value))
+
 -- A verb that takes a byte, and one that takes nothing.
 abbrev octetLine : Verb → List ℕ → (ℕ → Order) → Line
 octetLine v t f = given v (octetOf t .good) (f (octetOf t .value))
@@ -93,6 +97,8 @@ orderLine Help t = aloneLine Help t Verbs
 orderLine Save t = aloneLine Save t Saving
 orderLine Load t = given Load (not (eqb (length t) 0)) Loading
 orderLine Kind t = given Kind (smallOf t .good) (Name (smallOf t .value))
+orderLine Chassis t = chassisLine t
+orderLine Dock t = given Dock (smallOf t .good) (Choose (smallOf t .value))
 
 -- No verb takes more than one word.
 unfoldable pub verbLine : Verb → List ℕ → Line

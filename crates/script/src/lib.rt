@@ -33,6 +33,8 @@ pub enum Verb {
     Save,
     Load,
     Kind,
+    Chassis,
+    Dock,
 }
 
 // The word that a line about a bay begins with: what a person does there.
@@ -75,6 +77,10 @@ pub enum Order {
     Load,
     // Name a kind of controller by its number, also one that names none.
     Name(u8),
+    // So many docks stand on the bus from now on, one to four.
+    Docks(u8),
+    // Choose a dock by its number, also one that isn't there.
+    Choose(u8),
 }
 
 // What a line means.

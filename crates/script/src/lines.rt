@@ -1,6 +1,6 @@
 // What a line means: a verb, what it takes, and a comment after `#`.
 ghost use mathlib.Core.Path.{_≡_};
-ghost use Rattle.script.specs.Lines.{given, resetLine, takeLine, writeLine, span, readLine, orderLine, verbLine, plain, argumentOf, lineOf};
+ghost use Rattle.script.specs.Lines.{given, resetLine, takeLine, writeLine, span, readLine, chassisLine, orderLine, verbLine, plain, argumentOf, lineOf};
 use crate::Line;
 use crate::Named;
 use crate::Order;
@@ -29,6 +29,9 @@ const FURTHER: usize = 3;
 
 // The longest text of a write: so many values as there are registers.
 const MOST_WRITE: usize = PAIR + FURTHER * 255;
+
+// As many docks as one bus has.
+const MOST_DOCKS: u8 = 4;
 
 // An order, where what follows its verb is what the verb takes.
 fn given(verb: Verb, good: bool, order: Order) -> Line
@@ -113,6 +116,19 @@ fn read(text: &[u8]) -> Line
     given(Verb::R, one.good, Order::Read { register, more: 0 })
 }
 
+// One to four docks.
+fn chassis(text: &[u8]) -> Line
+    ensures { λ r. ⌜ r ≡ chassisLine (now (text .entry)) ⌝ }
+{
+    let n = small(text);
+    let docks = n.value;
+    given(
+        Verb::Chassis,
+        n.good & (1 <= docks) & (docks <= MOST_DOCKS),
+        Order::Docks(docks),
+    )
+}
+
 // A verb and the word after it, empty where there is none.
 fn order(verb: Verb, text: &[u8]) -> Line
     ensures { λ r. ⌜ r ≡ orderLine verb (now (text .entry)) ⌝ }
@@ -146,6 +162,11 @@ fn order(verb: Verb, text: &[u8]) -> Line
         Verb::Kind => {
             let n = small(text);
             given(verb, n.good, Order::Name(n.value))
+        }
+        Verb::Chassis => chassis(text),
+        Verb::Dock => {
+            let n = small(text);
+            given(verb, n.good, Order::Choose(n.value))
         }
     }
 }

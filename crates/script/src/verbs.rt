@@ -42,6 +42,10 @@ const LOAD: u64 = 0x64_61_6F_6C;
 
 const KIND: u64 = 0x64_6E_69_6B;
 
+const CHASSIS: u64 = 0x73_69_73_73_61_68_63;
+
+const DOCK: u64 = 0x6B_63_6F_64;
+
 const INSERT: u64 = 0x74_72_65_73_6E_69;
 
 const REMOVE: u64 = 0x65_76_6F_6D_65_72;
@@ -88,6 +92,8 @@ pub(crate) fn verb(name: u64) -> Named
         SAVE => Named::This(Verb::Save),
         LOAD => Named::This(Verb::Load),
         KIND => Named::This(Verb::Kind),
+        CHASSIS => Named::This(Verb::Chassis),
+        DOCK => Named::This(Verb::Dock),
         INSERT => Named::AtBay(Hand::Insert),
         REMOVE => Named::AtBay(Hand::Remove),
         PRESS => Named::AtBay(Hand::Press),

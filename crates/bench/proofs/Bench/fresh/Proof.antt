@@ -1,4 +1,4 @@
--- `bench::Bench::fresh` meets its contract: its dock is a fresh one. Assumes nothing.
+-- `bench::Bench::fresh` meets its contract: it has one dock. Assumes nothing.
 use borrow.Author.Needs.{needs}
 use Rattle.bench.specs.Orders.{freshBench}
 use Rattle.bench.proofs.Bench.fresh.Statement.{statement}
@@ -6,11 +6,7 @@ use Rattle.bench.proofs.Bench.fresh.Tie as tie
 
 returns : tie.Need-returns
 unfolding freshBench
-returns c = rw (c .fresh .ensures)
+returns c = c .of .ensures
 
 pub fresh-spec : {M : Type 1} → statement M
-fresh-spec =
-    tie.close
-    (tie.spec
-    (λ c κs. search needs)
-    returns)
+fresh-spec = tie.close (tie.spec (λ c κs. search needs) returns)

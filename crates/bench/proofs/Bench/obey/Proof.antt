@@ -11,11 +11,11 @@ returns c = rw (c .before .before .before .order .given .1, c .one .ensures, c .
 
 returns-2 : tie.Need-returns-2
 unfolding obeyed wordsOf afterWords
-returns-2 c = rw (c .before .before .before .before .order2 .given .1, c .one2 .ensures, c .before .word-for2 .ensures, c .before .before .pulled .ensures)
+returns-2 c = rw (c .before .before .before .before .order2 .given .1, c .one2 .ensures, c .before .word-for2 .ensures, c .before .before .pulled .ensures, c .before .before .before .before .before .before .levels-at .ensures)
 
 returns-3 : tie.Need-returns-3
 unfolding obeyed wordsOf afterWords
-returns-3 c = rw (c .before .before .before .before .order3 .given .1, c .one3 .ensures, c .before .word-for3 .ensures, c .before .before .raised .ensures)
+returns-3 c = rw (c .before .before .before .before .order3 .given .1, c .one3 .ensures, c .before .word-for3 .ensures, c .before .before .raised .ensures, c .before .before .before .before .before .before .levels-at .ensures)
 
 returns-4 : tie.Need-returns-4
 unfolding obeyed wordsOf afterWords
@@ -39,7 +39,7 @@ returns-8 c = rw (c .before .before .order8 .given .1)
 
 returns-9 : tie.Need-returns-9
 unfolding obeyed wordsOf afterWords
-returns-9 c = rw (c .before .before .enum-told .given .1)
+returns-9 c = rw (c .before .enum-told .given .1)
 
 returns-10 : tie.Need-returns-10
 unfolding obeyed wordsOf afterWords
@@ -61,15 +61,20 @@ returns-14 : tie.Need-returns-14
 unfolding obeyed wordsOf afterWords
 returns-14 c = rw (c .before .before .order9 .given .1, c .name .ensures)
 
+returns-15 : tie.Need-returns-15
+unfolding obeyed wordsOf afterWords
+returns-15 c = rw (c .before .before .before .order10 .given .1, c .of .ensures)
+
+returns-16 : tie.Need-returns-16
+unfolding obeyed wordsOf afterWords
+returns-16 c = rw (c .before .before .before .order11 .given .1)
+
 pub obey-spec : {M : Type 1} → statement M
 obey-spec =
     tie.close
     (tie.spec
-    (λ c. search needs)
-    (λ c κs. search needs)
     (λ c κs. search needs)
     (λ c. search needs)
-    (λ c κs. search needs)
     (λ c κs. search needs)
     (λ c κs. search needs)
     (λ c. search needs)
@@ -78,15 +83,6 @@ obey-spec =
     (λ c κs. search needs)
     (λ c. search needs)
     (λ c κs. search needs)
-    (λ c. search needs)
-    (λ c κs. search needs)
-    (λ c. search needs)
-    (λ c κs. search needs)
-    (λ c. search needs)
-    (λ c κs. search needs)
-    (λ c. search needs)
-    (λ c κs. search needs)
-    (λ c. search needs)
     (λ c κs. search needs)
     (λ c κs. search needs)
     (λ c. search needs)
@@ -98,6 +94,25 @@ obey-spec =
     (λ c. search needs)
     (λ c κs. search needs)
     (λ c. search needs)
+    (λ c κs. search needs)
+    (λ c. search needs)
+    (λ c κs. search needs)
+    (λ c. search needs)
+    (λ c κs. search needs)
+    (λ c. search needs)
+    (λ c κs. search needs)
+    (λ c. search needs)
+    (λ c κs. search needs)
+    (λ c. search needs)
+    (λ c κs. search needs)
+    (λ c. search needs)
+    (λ c κs. search needs)
+    (λ c. search needs)
+    (λ c κs. search needs)
+    (λ c. search needs)
+    (λ c κs. search needs)
+    (λ c. search needs)
+    (λ c κs. search needs)
     (λ c κs. search needs)
     returns
     returns-2
@@ -112,4 +127,6 @@ obey-spec =
     returns-11
     returns-12
     returns-13
-    returns-14)
+    returns-14
+    returns-15
+    returns-16)

@@ -15,7 +15,16 @@ returns-2 c = rw (← c .before .before .before .before .refusal .ensures, eq-eq
 
 returns-3 : tie.Need-returns-3
 unfolding levelsAfter
-returns-3 c = rw (← c .before .before .before .before .before .before .refusal .ensures, eq-eqb _ _ (c .before .before .before .before .before .if1 .left), ← c .before .before .before .before .unpack .ensures, c .before .before .event .given .1) (c .given-by .ensures)
+returns-3 c =
+    rw (
+      ← c .before .before .before .before .before .before .before .before .refusal .ensures,
+      eq-eqb _ _ (c .before .before .before .before .before .before .before .if1 .left),
+      ← c .before .before .before .before .before .before .unpack .ensures,
+      c .before .before .before .before .event .given .1,
+      c .with-levels .ensures,
+      c .before .given-by .ensures,
+      c .before .before .levels-at .ensures,
+    )
 
 pub levels-after-spec : {M : Type 1} → statement M
 levels-after-spec =
@@ -27,5 +36,7 @@ levels-after-spec =
     (λ c. search needs)
     (λ c. search needs)
     returns-2
+    (λ c κs. search needs)
+    (λ c κs. search needs)
     (λ c κs. search needs)
     returns-3)

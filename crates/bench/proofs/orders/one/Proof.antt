@@ -6,22 +6,7 @@ use Rattle.bench.proofs.orders.one.Statement.{statement}
 use Rattle.bench.proofs.orders.one.Tie as tie
 
 returns : tie.Need-returns
-returns c = ap (λ (x : Sent). x .bench) (c .before .before .before .before .before .before .before .send .ensures)
-
-returns-2 : tie.Need-returns-2
-returns-2 c = ap (λ (x : Sent). x .bench) (c .before .before .before .before .send .ensures)
+returns c = ap (λ (x : Sent). x .bench) (c .before .before .send .ensures)
 
 pub one-spec : {M : Type 1} → statement M
-one-spec =
-    tie.close
-    (tie.spec
-    (λ c κs. search needs)
-    (λ c κs. search needs)
-    (λ c κs. search needs)
-    (λ c. search needs)
-    (λ c κs. search needs)
-    (λ c κs. search needs)
-    (λ c κs. search needs)
-    (λ c κs. search needs)
-    returns
-    returns-2)
+one-spec = tie.close (tie.spec (λ c κs. search needs) (λ c κs. search needs) returns)

@@ -25,10 +25,10 @@ loop-holds c = (omega arith, c .word-for .ensures, refl)
 
 loop-again : tie.Need-loop-again Inv-loop μ-loop
 loop-again c =
-    let inv = c .before .before .before .before .before .before .loop .inv in (
-      omega (arith, c .before .before .before .before .before .loop-test .taken),
+    let inv = c .before .before .before .before .loop .inv in (
+      omega (arith, c .before .before .before .loop-test .taken),
       inv .1,
-      ap (λ (x : Sent). x .bench) (c .before .before .before .step .ensures) ∙ rw (inv .1, inv .2, once-more _ (wordFor Tick) _),
+      ap (λ (x : Sent). x .bench) (c .before .before .step .ensures) ∙ rw (inv .1, inv .2, once-more _ (wordFor Tick) _),
     )
 
 returns : tie.Need-returns Inv-loop μ-loop
@@ -46,9 +46,7 @@ ticks-spec =
     (λ c κs. search needs)
     loop-holds
     (λ c κs. search needs)
-    (λ c κs. search needs)
     (λ c. search needs)
-    (λ c κs. search needs)
     (λ c κs. search needs)
     (λ c. search needs)
     loop-again

@@ -77,6 +77,14 @@ returns-18 : tie.Need-returns-18
 unfolding orderLine
 returns-18 c = c .given14 .ensures ∙ rw (c .before .before .enum-told18 .given .1, c .before .small .ensures)
 
+returns-19 : tie.Need-returns-19
+unfolding orderLine
+returns-19 c = c .chassis .ensures ∙ rw (c .before .enum-told19 .given .1)
+
+returns-20 : tie.Need-returns-20
+unfolding orderLine
+returns-20 c = c .given15 .ensures ∙ rw (c .before .before .enum-told20 .given .1, c .before .small2 .ensures)
+
 pub order-spec : {M : Type 1} → statement M
 order-spec =
     tie.close
@@ -121,6 +129,11 @@ order-spec =
     (λ c. search needs)
     (λ c κs. search needs)
     (λ c κs. search needs)
+    (λ c. search needs)
+    (λ c κs. search needs)
+    (λ c. search needs)
+    (λ c κs. search needs)
+    (λ c κs. search needs)
     returns
     returns-2
     returns-3
@@ -138,4 +151,6 @@ order-spec =
     returns-15
     returns-16
     returns-17
-    returns-18)
+    returns-18
+    returns-19
+    returns-20)

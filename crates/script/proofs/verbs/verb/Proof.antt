@@ -104,9 +104,19 @@ returns-24 c = rw (c .match .keys24)
 
 returns-25 : tie.Need-returns-25
 unfolding verbOf verbs name spelled
-returns-25 c =
+returns-25 c = rw (c .match .keys25)
+
+returns-26 : tie.Need-returns-26
+unfolding verbOf verbs name spelled
+returns-26 c = rw (c .match .keys26)
+
+returns-27 : tie.Need-returns-27
+unfolding verbOf verbs name spelled
+returns-27 c =
     let r = c .match .rest in
     rw (
+      ne-eqb _ _ (r .0 .0 .0 .0 .0 .0 .0 .0 .0 .0 .0 .0 .0 .0 .0 .0 .0 .0 .0 .0 .0 .0 .0 .0 .0 .1),
+      ne-eqb _ _ (r .0 .0 .0 .0 .0 .0 .0 .0 .0 .0 .0 .0 .0 .0 .0 .0 .0 .0 .0 .0 .0 .0 .0 .0 .1),
       ne-eqb _ _ (r .0 .0 .0 .0 .0 .0 .0 .0 .0 .0 .0 .0 .0 .0 .0 .0 .0 .0 .0 .0 .0 .0 .0 .1),
       ne-eqb _ _ (r .0 .0 .0 .0 .0 .0 .0 .0 .0 .0 .0 .0 .0 .0 .0 .0 .0 .0 .0 .0 .0 .0 .1),
       ne-eqb _ _ (r .0 .0 .0 .0 .0 .0 .0 .0 .0 .0 .0 .0 .0 .0 .0 .0 .0 .0 .0 .0 .0 .1),
@@ -161,4 +171,6 @@ verb-spec =
     returns-22
     returns-23
     returns-24
-    returns-25)
+    returns-25
+    returns-26
+    returns-27)
