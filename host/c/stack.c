@@ -29,6 +29,7 @@ static volatile uint32_t answer;
 static uint8_t held[DOCK_WIRE_BYTES];
 static uint8_t samples[WORDS];
 static uint8_t queue[DOCK_QUEUE_BYTES];
+static uint8_t states[DOCK_CHASSIS_BYTES];
 
 static void nothing(void) { answer = 0; }
 static void version(void) { answer = dock_version(); }
@@ -56,6 +57,10 @@ static void queue_takes(void) {
     for (size_t i = 0; i <= DOCK_QUEUE_WORDS; i++)
         answer = dock_queue_take(queue, sizeof queue);
 }
+static void chassis_steps(void) {
+    for (size_t i = 0; i < WORDS; i++)
+        answer = (uint32_t)dock_chassis_step(states, sizeof states, 0, words[i]);
+}
 static void pack(void) { answer = dock_pack(DOCK_TICK, 0, 0); }
 static void unpack(void) { answer = dock_unpack(TICK); }
 
@@ -69,6 +74,14 @@ static void fill_words(const uint16_t *part, size_t length) {
 static void fill_samples(void) {
     for (size_t i = 0; i < WORDS; i++)
         samples[i] = BYTE_OF_ZEROS[i % sizeof BYTE_OF_ZEROS];
+}
+
+/* Four controllers, each at an address of its own; RESET, which the words begin with, is for the first. */
+static void start_chassis(void) {
+    for (unsigned place = 0; place < DOCK_CHASSIS_RECORDS; place++) {
+        dock_begin(states + DOCK_STATE_BYTES * place, DOCK_STATE_BYTES);
+        dock_chassis_step(states, sizeof states, place, (uint16_t)(RESET | place << 10));
+    }
 }
 
 /* A stack grows down: the paint is whole from its low end up to the deepest byte that was written. */
@@ -111,6 +124,8 @@ int main(void) {
     report("dock_outputs", outputs);
     report("dock_held_byte", held_byte);
     report("dock_name_kind", name_kind);
+    start_chassis();
+    report("dock_chassis_step", chassis_steps);
     dock_wire_begin(held, sizeof held);
     fill_samples();
     report("dock_wire_begin", wire_begin);

@@ -1,4 +1,4 @@
-/* The proved controller of a two-bay cartridge dock, version 5.2, for C99 or C++11 and newer.
+/* The proved controller of a two-bay cartridge dock, version 5.3, for C99 or C++11 and newer.
  *
  * A program holds the controller's state as DOCK_STATE_BYTES bytes and gives it one event at a time:
  *
@@ -44,6 +44,9 @@ extern "C" {
  * rises where a program that was built on an older header would misread or misuse a call, the second where it would
  * not.
  *
+ * Since 5.3 dock_chassis_step gives an event to one to four controllers on one bus, and gives refusals 9, 10 and 11. No
+ * other call has changed.
+ *
  * Since 5.2 dock_queue_begin, dock_queue_put and dock_queue_take are a queue of words that wait, and give refusals 7
  * and 8. No other call has changed.
  *
@@ -77,7 +80,7 @@ extern "C" {
  *
  * Before version 2, dock_reading and dock_outputs took words where they take a state now, and dock_unpack had a layout
  * of its own. A program that was built on such a header must be built again. */
-#define DOCK_VERSION 0x0502u
+#define DOCK_VERSION 0x0503u
 
 /* Bits of words and answers, numbers of events, replies and refusals that this header does not name are 0 or not given
  * in this version. A later one may use them, and then has a higher first number. A program that begins by asking
@@ -92,6 +95,8 @@ static inline int dock_fits_header(void) { return dock_version() >> 8 == DOCK_VE
 #define DOCK_MOST_SAMPLES 16384u
 #define DOCK_QUEUE_BYTES 261u
 #define DOCK_QUEUE_WORDS 128u
+#define DOCK_CHASSIS_RECORDS 4u
+#define DOCK_CHASSIS_BYTES (DOCK_CHASSIS_RECORDS * DOCK_STATE_BYTES)
 
 /* The kinds of events, and the two numbers that dock_pack takes and dock_unpack gives for each. A number that is not
  * named is 0. */
@@ -111,8 +116,8 @@ enum dock_kind_number {
 #define DOCK_SHORT_PULSE 0x100u
 
 /* The refusals, by call. "call": the call refuses. "record": the record of that word says so, and the call goes on.
- * dock_version gives 0 only, and dock_held_byte is refused as dock_outputs is. The wire cell's calls and the queue's
- * have tables of their own, below.
+ * dock_version gives 0 only, and dock_held_byte is refused as dock_outputs is. The wire cell's calls, the queue's and
+ * the chassis' have tables of their own, below.
  *
  * | no. | given when | begin | step | batch | reading, outputs | name_kind | replay | pack | unpack |
  * |---|---|---|---|---|---|---|---|---|---|
@@ -124,8 +129,9 @@ enum dock_kind_number {
  * | 5 | over 16,384 words | | | call | | | call | | |
  * | 6 | RESET with straps above 15 | | | | | | | call | |
  * | 7, 8 | by the queue's calls alone | | | | | | | | |
+ * | 9-11 | by the chassis' call alone | | | | | | | | |
  * | 14 | the number is that of no kind of controller | | | | | call | | | |
- * | 9-13, 15 | never in this version | | | | | | | | |
+ * | 12, 13, 15 | never in this version | | | | | | | | |
  *
  * Where more than one could be given, the order is 1, 5, 4 for a call with words, 1, 2, 3 for an event, and 1, 14 for a
  * name. */
@@ -139,6 +145,9 @@ enum dock_refusal_number {
     DOCK_WIDE_STRAPS = 6,
     DOCK_QUEUE_FULL = 7,
     DOCK_QUEUE_EMPTY = 8,
+    DOCK_CHASSIS_LENGTH = 9,
+    DOCK_ABSENT_RECORD = 10,
+    DOCK_TAKEN_ADDRESS = 11,
     DOCK_NO_SUCH_KIND = 14
 };
 
@@ -193,8 +202,8 @@ enum dock_output {
     DOCK_INTERRUPT = 0x001
 };
 
-/* ---- calls: all but dock_step answer the refusal in bits 23-16 and a value in bits 15-0, 0 with a refusal; bits 31-24
- * are 0 but where dock_unpack uses them ---- */
+/* ---- calls: all but dock_step and dock_chassis_step answer the refusal in bits 23-16 and a value in bits 15-0, 0 with
+ * a refusal; bits 31-24 are 0 but where dock_unpack uses them ---- */
 
 /* Writes the image of a fresh state, which has had no RESET yet. Value: 0. */
 uint32_t dock_begin(uint8_t *state, uint64_t state_len);
@@ -337,9 +346,56 @@ uint32_t dock_queue_put(uint8_t *queue, uint64_t queue_len, uint16_t word);
 /* Takes the word that has waited longest. Value: the word; 0 is one too, so the refusal tells whether there was any. */
 uint32_t dock_queue_take(uint8_t *queue, uint64_t queue_len);
 
+/* ---- the chassis: one to four controllers on one bus ----
+ *
+ * A list of states, one image after the other: DOCK_STATE_BYTES bytes, or two, three or four times as many. Each is a
+ * state of its own as well: it is begun by dock_begin, named by dock_name_kind and asked by dock_reading, dock_outputs
+ * and dock_held_byte, with a pointer into the list. Both kinds of controller may stand in one list.
+ *
+ *     static uint8_t states[2 * DOCK_STATE_BYTES];          // two controllers, four bays
+ *     uint8_t *other = states + DOCK_STATE_BYTES;
+ *     dock_begin(states, DOCK_STATE_BYTES);
+ *     dock_begin(other, DOCK_STATE_BYTES);
+ *     dock_name_kind(other, DOCK_STATE_BYTES, DOCK_SECOND_KIND);
+ *     dock_chassis_step(states, sizeof states, 0, 0xC2FF);  // a RESET of controller 0, at 90h
+ *     dock_chassis_step(states, sizeof states, 1, 0xC4FF);  // .. of controller 1, at 92h
+ *     dock_chassis_step(states, sizeof states, 0, 0x0000);  // a START, for both
+ *     uint64_t answer = dock_chassis_step(states, sizeof states, 0, 0x4092);
+ *     uint32_t reply = dock_chassis_reply(answer);          // DOCK_ACK, by controller 1
+ *     uint16_t pins_0 = dock_chassis_outputs(answer, 0);    // what to drive after the event, of each controller
+ *
+ * START, STOP, BYTE, TAKE, TIMEOUT and TICK go to every controller that has had a RESET; the others are passed over and
+ * stay as they are. PINS and RESET go to the one that `record` names, counted from 0; with any other word that number
+ * is not looked at. To a controller, an event that reaches it is what it is by dock_step, and any other is nothing.
+ *
+ * A BYTE has reply DOCK_ACK where a controller ACKs it, else DOCK_NO_ACK. A TAKE has reply DOCK_DRIVEN and the byte of
+ * the one that drives, else DOCK_NOT_DRIVEN and 255. No two drive: at most one of a list that is accepted holds a byte
+ * by dock_held_byte, and SDAT is driven from that one before the TAKE is known.
+ *
+ * The refusals:
+ *
+ * | no. | of dock_chassis_step |
+ * |---|---|
+ * | 9 | the list has another length; it is not read, and may be NULL |
+ * | 1 | one is no image of a fit state; or two that have had a RESET have one own address, or both have a read open |
+ * | 2 | a bit of the word is set that must be 0 |
+ * | 10 | PINS or RESET for one that is not in the list |
+ * | 3 | PINS for one that has had no RESET yet; any other word but RESET where none has had one |
+ * | 11 | RESET to the own address of another that has had a RESET |
+ *
+ * Where more than one could be given, the order is 9, 1, 2, 10, 3, 11. A RESET may give a controller the address that
+ * it has. A list that was refused neither with 9 nor with 1 is not refused with 1 at the next call either, unless its
+ * bytes were changed in between: by damage, or by words that dock_step or dock_batch gave to a part of it. */
+
+/* One event. The answer has a layout of its own: refusal in bits 63-60, reply in 59-57 and byte in 56-49, as at the top
+ * of a record; a zero; and in twelve bits each the outputs after the event, of controller 0 in 47-36, of 1 in 35-24, of
+ * 2 in 23-12, of 3 in 11-0, and 0 for one that is not there or has had no RESET. With a refusal, with 2 as well,
+ * everything below it is 0, and every byte of the list is as it came. */
+uint64_t dock_chassis_step(uint8_t *states, uint64_t states_len, uint64_t record, uint16_t word);
+
 /* ---- answers taken apart ---- */
 
-/* Of every call but dock_step. */
+/* Of every call but dock_step and dock_chassis_step. */
 static inline uint32_t dock_refusal(uint32_t answer) { return answer >> 16 & 0xFFu; }
 static inline uint16_t dock_value(uint32_t answer) { return (uint16_t)(answer & 0xFFFFu); }
 
@@ -355,6 +411,22 @@ static inline uint32_t dock_record_refusal(uint32_t record) { return record >> 2
 static inline uint32_t dock_record_reply(uint32_t record) { return record >> 25 & 7u; }
 static inline uint8_t dock_record_byte(uint32_t record) { return (uint8_t)(record >> 17 & 0xFFu); }
 static inline uint16_t dock_record_outputs(uint32_t record) { return (uint16_t)(record >> 8 & 0x1FFu); }
+
+/* dock_chassis_step's answer. */
+static inline uint32_t dock_chassis_refusal(uint64_t answer) { return (uint32_t)(answer >> 60); }
+static inline uint32_t dock_chassis_reply(uint64_t answer) { return (uint32_t)(answer >> 57) & 7u; }
+static inline uint8_t dock_chassis_byte(uint64_t answer) { return (uint8_t)(answer >> 49 & 0xFFu); }
+
+/* Of the controller with this number, and 0 for one that no list has. Each shift is by a constant, since by a variable
+ * it would be a function of the compiler's library on a Cortex-M0. */
+static inline uint16_t dock_chassis_outputs(uint64_t answer, uint64_t record) {
+    uint32_t outputs = (uint32_t)(record == 0   ? answer >> 36
+                                  : record == 1 ? answer >> 24
+                                  : record == 2 ? answer >> 12
+                                  : record == 3 ? answer
+                                                : 0);
+    return (uint16_t)(outputs & 0x1FFu);
+}
 
 /* A word's kind, and the two numbers in dock_unpack's answer. */
 static inline uint8_t dock_kind(uint16_t word) { return (uint8_t)(word >> 13); }

@@ -13,6 +13,7 @@ build_images() {
     image calls "$1" "$here/c/calls.c"
     image wire-calls "$1" "$here/c/wire_calls.c"
     image queue-calls "$1" "$here/c/queue_calls.c"
+    image chassis-calls "$1" "$here/c/chassis_calls.c"
     image player "$1" "${player_sources[@]}"
 }
 
@@ -116,11 +117,13 @@ check_programs() {
     there calls "$1" calls.out </dev/null
     there wire-calls "$1" wire-calls.out </dev/null
     there queue-calls "$1" queue-calls.out </dev/null
+    there chassis-calls "$1" chassis-calls.out </dev/null
     same "$1: the main loop prints what is stored" "$firmware/$1/loop.out" "$here/firmware.out"
     same "$1: the example prints what is stored" "$firmware/$1/c-example.out" "$here/example.out"
     same "$1: the calls, checked from C, as on x86-64" "$firmware/$1/calls.out" "$firmware/calls.out"
     same "$1: the wire cell's calls likewise" "$firmware/$1/wire-calls.out" "$firmware/wire-calls.out"
     same "$1: the queue's calls likewise" "$firmware/$1/queue-calls.out" "$firmware/queue-calls.out"
+    same "$1: the chassis' call likewise" "$firmware/$1/chassis-calls.out" "$firmware/chassis-calls.out"
 }
 
 # An interrupt that comes at any moment, as only a Cortex-M's does here: each word that it puts is taken, in order.
@@ -171,7 +174,7 @@ emulate_all() {
     generated_runs "${1:-200000}" "${2:-1}" >"$firmware/generated.in"
     saving_runs >"$firmware/saving.in"
     for name in trace paper generated saving; do play_here "$name"; done
-    for name in calls wire-calls queue-calls; do
+    for name in calls wire-calls queue-calls chassis-calls; do
         (start "$name") >"$firmware/$name.out" || differs "$name on x86-64 ends with status $?"
     done
     for processor in "${processors[@]}"; do

@@ -42,13 +42,13 @@ bytes() {
     sections "$1" | awk '{ sum += $1 } END { print sum + 0 }'
 }
 
-# Into $firmware/PROCESSOR: all sixteen calls, those on a held state, the wire cell's, the queue's, and those in C like
-# them.
+# Into $firmware/PROCESSOR: all seventeen calls, those on a held state, the wire cell's, the queue's, and those in C
+# like them.
 map_sizes() {
     local folder=$firmware/$1
     flags_of "$1"
     link_calls "$folder/all.map" "${held_calls[@]}" "${wire_calls[@]}" dock_queue_begin "${queue_calls[@]}" \
-        dock_{name_kind,held_byte,replay,pack,unpack,version} -- "$folder/libdock.a"
+        dock_{name_kind,held_byte,replay,pack,unpack,version,chassis_step} -- "$folder/libdock.a"
     link_calls "$folder/held.map" "${held_calls[@]}" -- "$folder/libdock.a"
     link_calls "$folder/loop-calls.map" dock_{begin,step,outputs,pack,version} dock_queue_begin "${queue_calls[@]}" \
         -- "$folder/libdock.a"
@@ -124,7 +124,7 @@ tell_sizes() {
     row "library's queue: queue_put, queue_take" queue_bytes
     row "queue in C, with the same flags" plain_queue_bytes
     row "**library's queue / in C**" queue_bytes_ratio
-    row "library: all sixteen calls" all_bytes
+    row "library: all seventeen calls" all_bytes
     row "library: the eight that the main loop calls" loop_bytes
 }
 
@@ -238,7 +238,7 @@ queue in C \`plain/queue.c\`, which makes the same tests on the same bytes. All 
 
 $(tell_sizes)
 
-A firmware that links with \`--gc-sections\` takes only what it calls. All sixteen calls, one by one:
+A firmware that links with \`--gc-sections\` takes only what it calls. All seventeen calls, one by one:
 
 $(tell_functions)
 

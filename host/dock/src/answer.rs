@@ -1,6 +1,6 @@
 //! Answers taken apart: the refusal and the value of a call, the record of a word.
 
-use crate::{Error, Outputs, Refusal, Reply, Unnamed, RECORD_BYTES};
+use crate::{Error, Outputs, Refusal, Reply, Unnamed, CHASSIS_RECORDS, RECORD_BYTES};
 
 /// The value of an answer that has no bit set above its refusal.
 pub(crate) fn value(answer: u32) -> Result<u16, Error> {
@@ -39,6 +39,28 @@ pub struct Step {
     pub reply: Reply,
     /// The outputs after the event.
     pub outputs: Outputs,
+}
+
+/// What an event that a chassis took led to.
+#[derive(Clone, Copy, PartialEq, Eq, Debug)]
+pub struct ChassisStep {
+    pub reply: Reply,
+    /// The outputs of each controller after the event, all off for one that is not there or has had no RESET.
+    pub outputs: [Outputs; CHASSIS_RECORDS],
+}
+
+/// The step in a chassis' answer: refusal 4 bits, reply 3, byte 8, a zero, and twelve bits for the outputs of each.
+pub(crate) fn chassis_step(answer: u64) -> Result<ChassisStep, Error> {
+    let high = (answer >> 32) as u32;
+    if let number @ 1.. = (high >> 28) as u16 {
+        return Err(Refusal::try_from(number)?.into());
+    }
+    if high & 0x1_0000 != 0 {
+        return Err(Unnamed { what: "chassis answer", number: high }.into());
+    }
+    let reply = Reply::try_from(((high >> 25) as u8, (high >> 17) as u8))?;
+    let outputs = |place: u32| Outputs::try_from((answer >> place) as u16 & 0xFFF);
+    Ok(ChassisStep { reply, outputs: [outputs(36)?, outputs(24)?, outputs(12)?, outputs(0)?] })
 }
 
 /// The record of one word, refused or not.
@@ -112,7 +134,7 @@ mod tests {
     fn an_answer_is_a_refusal_or_its_value() {
         assert_eq!(value(0x0000_C0BF), Ok(0xC0BF));
         assert_eq!(value(0x0005_0000), Err(Error::Refused(Refusal::TooManyWords)));
-        assert_eq!(value(0x0009_0000), Err(Error::Unnamed(Unnamed { what: "refusal", number: 9 })));
+        assert_eq!(value(0x000C_0000), Err(Error::Unnamed(Unnamed { what: "refusal", number: 12 })));
         assert_eq!(value(0x1000_0000), Err(Error::Unnamed(Unnamed { what: "refusal", number: 0x1000 })));
         assert_eq!(numbers(0x0000_90BF), Ok((0x90, 0xBF)));
         assert_eq!(numbers(0x0100_0FBF), Ok((0x10F, 0xBF)));
@@ -125,6 +147,21 @@ mod tests {
         assert_eq!(held(0x0001_0000), Err(Error::Refused(Refusal::UnfitState)));
         for number in [0x0001, 0x0200, 0x0301] {
             assert_eq!(held(number), Err(Error::Unnamed(Unnamed { what: "held byte", number })));
+        }
+    }
+
+    #[test]
+    fn a_chassis_answers_a_refusal_or_a_reply_and_four_sets_of_outputs() {
+        let told = |answer| chassis_step(answer).map(|step| (step.reply, step.outputs.map(Outputs::bits)));
+        assert_eq!(told(0x062A_0411_FF00_0088), Ok((Reply::Driven(0x15), [0x041, 0x1FF, 0x000, 0x088])));
+        assert_eq!(told(0x0200_1001_1000_0088), Ok((Reply::Ack, [0x100, 0x110, 0x000, 0x088])));
+        assert_eq!(told(0xB000_0000_0000_0000), Err(Refusal::TakenAddress.into()));
+        let unnamed = |what, number| Err(Error::Unnamed(Unnamed { what, number }));
+        assert_eq!(told(0xC000_0000_0000_0000), unnamed("refusal", 12));
+        assert_eq!(told(0x0001_0000_0000_0000), unnamed("chassis answer", 0x1_0000));
+        assert_eq!(told(0x0A00_0000_0000_0000), unnamed("reply and byte", 0x500));
+        for place in [0, 12, 24, 36] {
+            assert_eq!(told(0x200 << place), unnamed("set of outputs", 0x200));
         }
     }
 }

@@ -14,6 +14,9 @@ pub enum Refusal {
     WideStraps = 6,
     QueueFull = 7,
     QueueEmpty = 8,
+    ChassisLength = 9,
+    AbsentRecord = 10,
+    TakenAddress = 11,
     NoSuchKind = 14,
 }
 
@@ -31,6 +34,9 @@ impl TryFrom<u16> for Refusal {
             6 => Refusal::WideStraps,
             7 => Refusal::QueueFull,
             8 => Refusal::QueueEmpty,
+            9 => Refusal::ChassisLength,
+            10 => Refusal::AbsentRecord,
+            11 => Refusal::TakenAddress,
             14 => Refusal::NoSuchKind,
             _ => return Err(Unnamed { what: "refusal", number: u32::from(number) }),
         })
@@ -48,6 +54,9 @@ impl fmt::Display for Refusal {
             Refusal::WideStraps => "straps above 15",
             Refusal::QueueFull => "128 words wait already",
             Refusal::QueueEmpty => "no word waits",
+            Refusal::ChassisLength => "a chassis of none or of more than four controllers",
+            Refusal::AbsentRecord => "PINS or RESET for a controller that is not there",
+            Refusal::TakenAddress => "a RESET to the address of another controller",
             Refusal::NoSuchKind => "a number that no kind of controller has",
         })
     }

@@ -4,6 +4,8 @@
 //! pointer is aligned and good for its length, and one that may be written through overlaps no other.
 #![allow(unsafe_code)]
 
+use crate::{Dock, STATE_BYTES};
+
 extern "C" {
     fn dock_version() -> u32;
     fn dock_begin(state: *mut u8, state_len: u64) -> u32;
@@ -35,6 +37,7 @@ extern "C" {
     fn dock_queue_begin(queue: *mut u8, queue_len: u64) -> u32;
     fn dock_queue_put(queue: *mut u8, queue_len: u64, word: u16) -> u32;
     fn dock_queue_take(queue: *mut u8, queue_len: u64) -> u32;
+    fn dock_chassis_step(states: *mut u8, states_len: u64, record: u64, word: u16) -> u64;
 }
 
 /// A length has 64 bits in the interface, whatever a pointer has.
@@ -122,4 +125,15 @@ pub fn queue_put(queue: &mut [u8], word: u16) -> u32 {
 pub fn queue_take(queue: &mut [u8]) -> u32 {
     // SAFETY: the slice is lent for writing, and its own length goes with it.
     unsafe { dock_queue_take(queue.as_mut_ptr(), len(queue)) }
+}
+
+pub fn chassis_step(states: &mut [u8], record: u64, word: u16) -> u64 {
+    // SAFETY: the slice is lent for writing, and its own length goes with it.
+    unsafe { dock_chassis_step(states.as_mut_ptr(), len(states), record, word) }
+}
+
+/// The images of the docks, one after the other. What a call leaves there is always an image of a fit state.
+pub(crate) fn images(docks: &mut [Dock]) -> &mut [u8] {
+    // SAFETY: a dock is its image and nothing else (`repr(transparent)`), and bytes need no alignment.
+    unsafe { core::slice::from_raw_parts_mut(docks.as_mut_ptr().cast(), STATE_BYTES * docks.len()) }
 }

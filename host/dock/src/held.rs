@@ -29,6 +29,7 @@ const NAMED: usize = 3;
 /// # Ok::<(), dock::Error>(())
 /// ```
 #[derive(Clone, PartialEq, Eq, Debug)]
+#[repr(transparent)]
 pub struct Dock {
     image: [u8; STATE_BYTES],
 }

@@ -20,7 +20,7 @@
 //! [`Dock::name_kind`] says which, from the next RESET on. A whole history in one call ([`replay`]) is of the first.
 //!
 //! Where a processor has no bus cell, a [`Wire`] makes the bus events of samples of the two lines. Words that come while
-//! the main loop is busy wait in a [`Queue`].
+//! the main loop is busy wait in a [`Queue`]. One to four controllers on one bus are a [`Chassis`].
 //!
 //! Any words, any numbers, any bytes and slices of any length are taken: a call returns, and what it cannot do it
 //! refuses and changes nothing. No call panics. A number that this version has no name for is an error.
@@ -31,6 +31,7 @@
 #![deny(unsafe_code)]
 
 mod answer;
+mod chassis;
 mod error;
 mod event;
 pub mod ffi;
@@ -43,7 +44,8 @@ mod reply;
 mod version;
 mod wire;
 
-pub use answer::{records, Record, Step};
+pub use answer::{records, ChassisStep, Record, Step};
+pub use chassis::Chassis;
 pub use error::{Error, Refusal, Unnamed};
 pub use event::{read, write, Event};
 pub use held::Dock;
@@ -77,6 +79,9 @@ pub const QUEUE_BYTES: usize = 261;
 
 /// The most words that wait; one more is refused with [`Refusal::QueueFull`].
 pub const QUEUE_WORDS: usize = 128;
+
+/// The most controllers in a chassis; a list of more, or of none, is refused with [`Refusal::ChassisLength`].
+pub const CHASSIS_RECORDS: usize = 4;
 
 /// The lines in a sample.
 pub const SDAT: u8 = 1;

@@ -268,9 +268,9 @@ fn records_are_read_as_the_paper_packs_them() {
 
 #[test]
 fn numbers_without_a_name_are_told() {
-    let mut refusals = (1..=8).chain([14]);
+    let mut refusals = (1..=11).chain([14]);
     assert!(refusals.all(|number| Refusal::try_from(number).map(|refusal| refusal as u16) == Ok(number)));
-    assert!([0, 9, 13, 15, 0xFFFF].iter().all(|&number| Refusal::try_from(number).is_err()));
+    assert!([0, 12, 13, 15, 0xFFFF].iter().all(|&number| Refusal::try_from(number).is_err()));
     assert!((5..=7).all(|state| BayState::try_from(state).is_err() && Status::try_from(state << 4).is_err()));
     assert!(Outputs::try_from(0x1FF).is_ok());
     assert!(Outputs::try_from(0x200).is_err());
@@ -278,7 +278,7 @@ fn numbers_without_a_name_are_told() {
         assert!(Reply::try_from((number, byte)).is_err());
     }
     assert!(Record::try_from(0x0000_0080).is_err());
-    assert!(Record::try_from(0x9000_0000).is_err());
+    assert!(Record::try_from(0xC000_0000).is_err());
     assert!(Record::try_from(0x0A00_0000).is_err());
 }
 

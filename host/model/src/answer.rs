@@ -19,6 +19,12 @@ pub enum Refusal {
     QueueFull = 7,
     /// A take while no word waits.
     QueueEmpty = 8,
+    /// A chassis of none or of more than four records.
+    ChassisLength = 9,
+    /// PINS or RESET for a record that the chassis has not.
+    AbsentRecord = 10,
+    /// RESET to the own address of a started neighbour.
+    TakenAddress = 11,
     /// Naming: a number that no kind has.
     NoSuchKind = 14,
 }
@@ -34,7 +40,7 @@ pub enum Reply {
 }
 
 impl Reply {
-    fn number(self) -> u32 {
+    pub(crate) fn number(self) -> u32 {
         match self {
             Reply::None => 0,
             Reply::Ack => 1,
@@ -44,7 +50,7 @@ impl Reply {
         }
     }
 
-    fn byte(self) -> u8 {
+    pub(crate) fn byte(self) -> u8 {
         match self {
             Reply::Driven(value) => value,
             // Nobody pulls the line low, so the host clocks in ones.

@@ -4,6 +4,8 @@
 use crate::{pattern, Call, Room};
 use dock::ffi;
 use model::{numbers, Answer, Controller, Refusal, MOST_WORDS, STATE_BYTES};
+use std::fmt::UpperHex;
+use std::mem::size_of;
 
 /// Bytes on either side of what is lent, which no call may touch.
 pub(crate) const GUARD: usize = 16;
@@ -143,11 +145,15 @@ impl Held {
     }
 }
 
-pub(crate) fn answers_agree(library: u32, model: u32, asked: impl Fn() -> String) -> Result<(), Mismatch> {
+pub(crate) fn answers_agree<A>(library: A, model: A, asked: impl Fn() -> String) -> Result<(), Mismatch>
+where
+    A: PartialEq + UpperHex,
+{
     if library == model {
         return Ok(());
     }
-    let shown = |answer| format!("{:08X}h", answer);
+    let digits = 2 * size_of::<A>();
+    let shown = |answer| format!("{:0digits$X}h", answer);
     Err(Mismatch { asked: asked(), library: shown(library), model: shown(model) })
 }
 

@@ -2,6 +2,7 @@
 
 mod bytes;
 mod call;
+mod chassis;
 pub mod held;
 pub mod lists;
 mod queue;
@@ -10,6 +11,7 @@ mod shrink;
 
 pub use bytes::{hex, pattern, Room};
 pub use call::Call;
+pub use chassis::HeldChassis;
 pub use held::{Held, Mismatch, TOO_MANY};
 pub use queue::HeldQueue;
 pub use random::Random;
