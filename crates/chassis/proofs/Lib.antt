@@ -7,6 +7,8 @@ pub mod Loops
 pub mod Turns
 pub mod Plain
 pub mod Row
+pub mod ByValue
+pub mod WrittenOut
 pub mod Places
 pub mod Accepting
 pub mod Refusals
