@@ -31,6 +31,9 @@ static struct plain_wire plain_held;
 static uint8_t samples[WORDS];
 static unsigned samples_len;
 static uint8_t queue[DOCK_QUEUE_BYTES], c_queue[DOCK_QUEUE_BYTES];
+static uint8_t states[DOCK_CHASSIS_BYTES];
+static unsigned states_len;
+static volatile uint64_t chassis_answer;
 
 /* ---- calls ---- */
 
@@ -54,6 +57,7 @@ static void library_listen(void) {
 static void library_queue_begin(void) { answer = dock_queue_begin(queue, sizeof queue); }
 static void library_put(void) { answer = dock_queue_put(queue, sizeof queue, word); }
 static void library_take(void) { answer = dock_queue_take(queue, sizeof queue); }
+static void library_chassis(void) { chassis_answer = dock_chassis_step(states, states_len, 0, word); }
 static void c_begin(void) { plain_begin(); }
 static void c_step(void) { answer = plain_step(word); }
 static void c_batch(void) { plain_batch(words, words_len, records); }
@@ -307,6 +311,23 @@ static void tell_queue(void) {
     tell_both("a take refused with 1", library_take, c_take);
 }
 
+/* ---- several controllers ---- */
+
+/* So many, each with an own address. */
+static void make_chassis(unsigned count) {
+    states_len = count * DOCK_STATE_BYTES;
+    for (unsigned i = 0; i < count; i++) {
+        dock_begin(states + i * DOCK_STATE_BYTES, DOCK_STATE_BYTES);
+        dock_chassis_step(states, states_len, i, (uint16_t)(0xC0FFu + 0x400u * i));
+    }
+}
+
+static void tell_chassis(const char *what, unsigned count, uint16_t event) {
+    make_chassis(count);
+    word = event;
+    tell_alone(what, library_chassis);
+}
+
 int main(void) {
     calibrate();
     printf("events\n");
@@ -328,6 +349,10 @@ int main(void) {
     tell_alone("dock_replay of 33 words", library_replay);
     tell_both("dock_wire_begin: a fresh image", library_wire_begin, c_wire_begin);
     tell_alone("dock_queue_begin: an empty queue", library_queue_begin);
+    tell_chassis("dock_chassis_step of one state: TICK", 1, 0xA000);
+    tell_chassis("dock_chassis_step of four: TICK", 4, 0xA000);
+    tell_chassis("dock_chassis_step of four: PINS for one", 4, 0x80FF);
+    tell_chassis("dock_chassis_step of four: a word refused with 2", 4, 0x0001);
     tell_alone("dock_pack", library_pack);
     tell_alone("dock_unpack", library_unpack);
     tell_alone("dock_version", library_version);

@@ -1,8 +1,9 @@
 -- A record decodes to the answer it was made of: the fields lie side by side, each within its bits. Assumes nothing.
-use Prim.Native.Nat.{ℕ, _/_, _%_, _<_}
+use Prim.Native.Nat.{ℕ, zero, suc, _/_, _%_, _<_}
 use native.Mathlib.Omega.{arith}
 use native.Mathlib.Nat.{div-div-eq-div-mul, mod-eq-of-lt}
 use mathlib.Core.Path.{_≡_, refl, _∙_}
+use mathlib.Core.Logic.{_≢_}
 use Rattle.bus.specs.Reply.{replyNumber, replyByte}
 use Rattle.bus.specs.declared.Reply.{Reply}
 use Rattle.bus.specs.declared.Reply.the-variants.{Nothing, Ack, NoAck, Driven, NotDriven}
@@ -10,7 +11,7 @@ use Rattle.dock.specs.Answers.{refusalOf, replyOf, byteOf, outputsOf}
 use Rattle.dock.specs.declared.Answer.{Answer}
 use Rattle.dock.specs.declared.Answer.the-variants.{Done, Unfit, StrayBit, NotStarted}
 use Rattle.batch.specs.Record.{fields, recordNumber, bytesOf, recordOf}
-use Rattle.batch.specs.Decode.{numberOf, answerBy, answerIn, decode}
+use Rattle.batch.specs.Decode.{numberOf, replyBy, answerBy, answerIn, decode}
 
 -- Four bytes make the number again.
 bytes-back : (n : ℕ) → n < 4294967296 → numberOf (bytesOf n) ≡ n
@@ -19,7 +20,8 @@ bytes-back n h = rw (← (div-div-eq-div-mul n 65536 256), ← (div-div-eq-div-m
 -- The fields come apart again.
 fields-back :
     (r p b o : ℕ) → r < 16 → p < 8 → b < 256 → o < 512
-    → answerIn (fields r p b o) ≡ answerBy r p b o
+    → answerIn (fields r p b o) ≡ answerBy r (replyBy p b) o
+unfolding answerIn
 fields-back r p b o hr hp hb ho = rw (first, second, third, fourth)
   where
     first : fields r p b o / 268435456 ≡ r
@@ -35,14 +37,14 @@ fields-back r p b o hr hp hb ho = rw (first, second, third, fourth)
     fourth = omega arith
 
 -- An answer is the one with its numbers.
-reply-back : (r : Reply) (o : ℕ) → answerBy 0 (replyNumber r) (replyByte r) o ≡ Done r o
+reply-back : (r : Reply) (o : ℕ) → answerBy 0 (replyBy (replyNumber r) (replyByte r)) o ≡ Done r o
 reply-back Nothing o = refl
 reply-back Ack o = refl
 reply-back NoAck o = refl
 reply-back (Driven v) o = refl
 reply-back NotDriven o = refl
 
-answer-back : (a : Answer) → answerBy (refusalOf a) (replyOf a) (byteOf a) (outputsOf a) ≡ a
+answer-back : (a : Answer) → answerBy (refusalOf a) (replyBy (replyOf a) (byteOf a)) (outputsOf a) ≡ a
 answer-back (Done r o) = reply-back r o
 answer-back Unfit = refl
 answer-back (StrayBit o) = refl
@@ -75,3 +77,17 @@ decoded a hb ho =
     let h = numbers-small a in
     rw (number-is a hb ho, bytes-back (fields (refusalOf a) (replyOf a) (byteOf a) (outputsOf a)) (number-small _ _ _ _ (h .0) (h .1) hb ho))
     (fields-back _ _ _ _ (h .0) (h .1) hb ho ∙ answer-back a)
+
+-- Past the tables: a reply that isn't driven, and a controller that isn't started.
+pub reply-past : (n byte : ℕ) → n ≢ 0 → n ≢ 1 → n ≢ 2 → n ≢ 3 → replyBy n byte ≡ NotDriven
+reply-past zero byte a b c d = absurd (a refl)
+reply-past (suc zero) byte a b c d = absurd (b refl)
+reply-past (suc (suc zero)) byte a b c d = absurd (c refl)
+reply-past (suc (suc (suc zero))) byte a b c d = absurd (d refl)
+reply-past (suc (suc (suc (suc n)))) byte a b c d = refl
+
+pub answer-past : (n : ℕ) (reply : Reply) (outputs : ℕ) → n ≢ 0 → n ≢ 1 → n ≢ 2 → answerBy n reply outputs ≡ NotStarted
+answer-past zero reply outputs a b c = absurd (a refl)
+answer-past (suc zero) reply outputs a b c = absurd (b refl)
+answer-past (suc (suc zero)) reply outputs a b c = absurd (c refl)
+answer-past (suc (suc (suc n))) reply outputs a b c = refl

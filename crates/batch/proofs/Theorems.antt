@@ -12,15 +12,17 @@ use Rattle.machine.specs.Record.{fits}
 use Rattle.dock.specs.Step.{stepOf}
 use Rattle.dock.specs.Run.{after, answersTo}
 use Rattle.dock.specs.Answers.{byteOf, outputsOf}
+use Rattle.dock.specs.Held.{heldValue, heldFit}
 use Rattle.dock.specs.declared.Controller.{Controller}
 use Rattle.dock.specs.declared.Answer.{Answer}
 use Rattle.dock.specs.declared.Answer.the-variants as answer
 use Rattle.bus.specs.declared.Reply.the-variants.{Driven}
+use Rattle.dock.proofs.Widths.{byte-wide, outputs-wide}
 use Rattle.dock.proofs.Run.{after-append, answers-append, answers-length}
 use Rattle.batch.specs.Record.{recordNumber, recordOf, recordsOf}
 use Rattle.batch.specs.Batch.{outcomeOf, stateBy, batchOf, bufferAfter}
 use Rattle.batch.specs.Outcome.{outcomeCount}
-use Rattle.batch.specs.Decode.{decode}
+use Rattle.batch.specs.Decode.{numberOf, answerIn, decode}
 use Rattle.batch.specs.declared.Outcome.{Outcome}
 use Rattle.batch.specs.declared.Outcome.the-variants.{Done, Unfit}
 use Rattle.batch.specs.declared.Batched.{Batched}
@@ -29,6 +31,7 @@ use Rattle.batch.proofs.Accepted.{has-room}
 use Rattle.batch.proofs.Decode.{decoded}
 use Rattle.batch.proofs.batch.Reads as batch-reads
 use Rattle.batch.proofs.record.Reads as record-reads
+use Rattle.batch.proofs.answer_in.Reads as answer-reads
 use Rattle.batch.proofs.Outcome.refusal.Reads as refusal-reads
 use Rattle.batch.proofs.Outcome.count.Reads as count-reads
 
@@ -106,6 +109,11 @@ cut-anywhere s xs ys =
 pub record-decodes : (a : Answer) → byteOf a < 256 → outputsOf a < 512 → decode (recordOf a) ≡ a
 record-decodes = decoded
 
+-- So the record of each answer of the single call tells it, in a state whose held byte is one.
+pub call-decodes : (s : Controller) (w : ℕ) → heldValue (heldFit s) < 512 → answerIn (numberOf (recordOf (stepOf s w .answer))) ≡ stepOf s w .answer
+unfolding decode
+call-decodes s w h = decoded (stepOf s w .answer) (byte-wide s w h) (outputs-wide s w)
+
 -- The paper's last record, of the answer 0, 3, 15h, 041h.
 pub last-record : recordOf (answer.Done (Driven 0x15) 0x041) ≡ 0x06 ∷ 0x2A ∷ 0x41 ∷ 0x00 ∷ []
 unfolding recordOf recordNumber
@@ -120,6 +128,9 @@ second-kinds-record = refl
 
 pub record-determined : (a : Answer) (r s : List ℕ) → record-reads.Post tt (a, tt) r (a, tt) → record-reads.Post tt (a, tt) s (a, tt) → r ≡ s
 record-determined a r s p q = p ∙ sym q
+
+pub answer-determined : (n : ℕ) (r s : Answer) → answer-reads.Post tt (n, tt) r (n, tt) → answer-reads.Post tt (n, tt) s (n, tt) → r ≡ s
+answer-determined n r s p q = p ∙ sym q
 
 pub refusal-determined : (o : Outcome) (r s : ℕ) → refusal-reads.Post tt (o, tt) r (o, tt) → refusal-reads.Post tt (o, tt) s (o, tt) → r ≡ s
 refusal-determined o r s p q = p ∙ sym q

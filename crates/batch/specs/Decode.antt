@@ -15,12 +15,13 @@ numberOf r = ((getD r 0 0 * 256 + getD r 1 0) * 256 + getD r 2 0) * 256 + getD r
 abbrev pub replyBy : ℕ → ℕ → Reply
 replyBy n byte = getD (Nothing ∷ Ack ∷ NoAck ∷ Driven byte ∷ []) n NotDriven
 
--- An answer by its refusal, reply, byte and outputs.
-abbrev pub answerBy : ℕ → ℕ → ℕ → ℕ → Answer
-answerBy refusal reply byte outputs = getD (Done (replyBy reply byte) outputs ∷ Unfit ∷ StrayBit outputs ∷ []) refusal NotStarted
+-- An answer by its refusal, reply and outputs.
+abbrev pub answerBy : ℕ → Reply → ℕ → Answer
+answerBy refusal reply outputs = getD (Done reply outputs ∷ Unfit ∷ StrayBit outputs ∷ []) refusal NotStarted
 
-abbrev pub answerIn : ℕ → Answer
-answerIn n = answerBy (n / 2 ^ 28) (n / 2 ^ 25 % 8) (n / 2 ^ 17 % 256) (n / 2 ^ 8 % 512)
+-- The answer that a record's 32 bits tell.
+unfoldable pub answerIn : ℕ → Answer
+answerIn n = answerBy (n / 2 ^ 28) (replyBy (n / 2 ^ 25 % 8) (n / 2 ^ 17 % 256)) (n / 2 ^ 8 % 512)
 
 unfoldable pub decode : List ℕ → Answer
 decode r = answerIn (numberOf r)

@@ -7,8 +7,10 @@ ghost use Prim.Native.Nat.{_*_, _%_, _≤_};
 ghost use Rattle.machine.specs.Record.{fits};
 ghost use Rattle.dock.specs.Run.{after, answersTo};
 ghost use Rattle.batch.specs.Record.{fields, recordNumber, recordOf, recordsOf};
+ghost use Rattle.batch.specs.Decode.{replyBy, answerBy, answerIn};
 ghost use Rattle.batch.specs.Batch.{batchOf, bufferAfter, outcomeOf};
 ghost use Rattle.batch.specs.Outcome.{outcomeRefusal, outcomeCount};
+use bus::Reply;
 use dock::Answer;
 use dock::Controller;
 
@@ -65,6 +67,42 @@ pub fn record(answer: Answer) -> [u8; 4]
         (n / 256 % 256) as u8,
         (n % 256) as u8,
     ]
+}
+
+// A reply by its number and byte: any past 3 is that of a TAKE that isn't driven.
+fn reply_by(number: u8, byte: u8) -> Reply
+    ensures { λ r. ⌜ r ≡ replyBy number byte ⌝ }
+{
+    match number {
+        0 => Reply::Nothing,
+        1 => Reply::Ack,
+        2 => Reply::NoAck,
+        3 => Reply::Driven(byte),
+        _ => Reply::NotDriven,
+    }
+}
+
+// An answer by its numbers: any refusal past 2 is that of a controller that isn't started.
+fn answer_by(refusal: u8, reply: Reply, outputs: u16) -> Answer
+    ensures { λ r. ⌜ r ≡ answerBy refusal reply outputs ⌝ }
+{
+    match refusal {
+        0 => Answer::Done(reply, outputs),
+        1 => Answer::Unfit,
+        2 => Answer::StrayBit(outputs),
+        _ => Answer::NotStarted,
+    }
+}
+
+// The answer that a record's 32 bits tell.
+pub fn answer_in(number: u32) -> Answer
+    ensures { λ r. ⌜ r ≡ answerIn number ⌝ }
+{
+    let refusal = (number / 0x1000_0000) as u8;
+    let reply = (number / 0x0200_0000 % 8) as u8;
+    let byte = (number / 0x0002_0000 % 256) as u8;
+    let outputs = (number / 256 % 512) as u16;
+    answer_by(refusal, reply_by(reply, byte), outputs)
 }
 
 // Writes an answer's record into the four bytes lent.

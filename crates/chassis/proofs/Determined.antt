@@ -1,7 +1,9 @@
 -- The contracts of the exported calls determine their answers, and that of `step` the whole list after the call. Assumes nothing.
 use Prim.Native.Nat.{ℕ}
 use mathlib.Core.Path.{_≡_, sym, _∙_}
+use mathlib.Core.Bool.{Bool}
 use mathlib.Core.List.{List}
+use Rattle.bus.specs.declared.Reply.{Reply}
 use Rattle.dock.specs.declared.Controller.{Controller}
 use Rattle.chassis.specs.declared.Answer.{Answer}
 use Rattle.chassis.specs.declared.Chassis.{Chassis}
@@ -19,6 +21,8 @@ use Rattle.chassis.proofs.Seen.«with».Reads as with-reads
 use Rattle.chassis.proofs.Seen.errand.Reads as errand-reads
 use Rattle.chassis.proofs.Errand.places.Reads as places-reads
 use Rattle.chassis.proofs.Errand.set_out.Reads as out-reads
+use Rattle.chassis.proofs.Errand.reaches.Reads as reaches-reads
+use Rattle.chassis.proofs.Round.gathered.Reads as gathered-reads
 use Rattle.chassis.proofs.Errand.passed.Reads as passed-reads
 use Rattle.chassis.proofs.Errand.told.Reads as told-reads
 use Rattle.chassis.proofs.Refusal.number.Reads as number-reads
@@ -49,6 +53,12 @@ places-determined e m r s p q = p ∙ sym q
 
 pub set-out-determined : (e : Errand) (r s : Round) → out-reads.Post tt (e, tt) r (e, tt) → out-reads.Post tt (e, tt) s (e, tt) → r ≡ s
 set-out-determined e r s p q = p ∙ sym q
+
+pub reaches-determined : (e : Errand) (n : ℕ) (r s : Bool) → reaches-reads.Post tt (e, (n, tt)) r (e, (n, tt)) → reaches-reads.Post tt (e, (n, tt)) s (e, (n, tt)) → r ≡ s
+reaches-determined e n r s p q = p ∙ sym q
+
+pub gathered-determined : (y : Round) (x : Reply) (o : ℕ) (r s : Round) → gathered-reads.Post tt (y, (x, (o, tt))) r (y, (x, (o, tt))) → gathered-reads.Post tt (y, (x, (o, tt))) s (y, (x, (o, tt))) → r ≡ s
+gathered-determined y x o r s p q = p ∙ sym q
 
 pub passed-determined : (e : Errand) (y : Round) (c : Controller) (r s : Passed) → passed-reads.Post tt (e, (y, (c, tt))) r (e, (y, (c, tt))) → passed-reads.Post tt (e, (y, (c, tt))) s (e, (y, (c, tt))) → r ≡ s
 passed-determined e y c r s p q = p ∙ sym q

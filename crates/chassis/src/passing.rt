@@ -47,7 +47,7 @@ fn louder(first: Reply, second: Reply) -> Reply
 
 impl Round {
     // One record more has replied so, and drives these outputs.
-    fn gathered(self, reply: Reply, outputs: u16) -> Round
+    pub fn gathered(self, reply: Reply, outputs: u16) -> Round
         ensures { λ r. ⌜ r ≡ gathered self reply outputs ⌝ }
     {
         let place = self.place;
@@ -93,7 +93,7 @@ impl Errand {
     }
 
     // Whether the record at a place gets the event: PINS and RESET go to the one that is named.
-    fn reaches(self, place: usize) -> bool
+    pub fn reaches(self, place: usize) -> bool
         ensures { λ r. ⌜ r ≡ reachesBy (self .verdict) (self .named) place ⌝ }
     {
         let verdict = self.verdict;

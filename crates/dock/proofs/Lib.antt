@@ -15,6 +15,7 @@ pub mod Inputs
 pub mod Replies
 pub mod Goes
 pub mod Shown
+pub mod Widths
 pub mod Run
 pub mod Determined
 pub mod Examples

@@ -2,6 +2,7 @@ pub mod Flags
 pub mod Elements
 pub mod Bytes
 pub mod Whole
+pub mod OpenRead
 pub mod RoundTrip
 pub mod Places
 pub mod Determined

@@ -4,8 +4,8 @@ use Prim.Native.Nat.{ℕ, zero, suc, _+_, _*_, _<_, _≤_}
 use native.Mathlib.Omega.{arith}
 use native.Mathlib.Numerals.{add-one}
 use mathlib.Core.Path.{_≡_, refl, ap, sym, _∙_}
-use mathlib.Core.Bool.{Bool, true, false, _&&_, and-assoc}
-use mathlib.Core.List.{List, [], _∷_, _++_, append-assoc}
+use mathlib.Core.Bool.{Bool, true, false, _&&_, and-assoc, and-eq-true-iff}
+use mathlib.Core.List.{List, [], _∷_, _++_, map, append-assoc}
 use lib.ListN.{length, getD, take, drop, length-append, length-drop}
 use lib.Seq.{take-suc-set, take-at, drop-at, drop-drop, length-take-le}
 use Rattle.dock.specs.Record.{freshController}
@@ -18,10 +18,10 @@ use Rattle.chassis.specs.declared.Round.{Round}
 use Rattle.chassis.specs.declared.Seen.{Seen}
 use Rattle.chassis.proofs.Loops.{seen-none, seen-next, round-none, records-length, record-waits, records-next, round-next}
 use Rattle.image.specs.Save.{saved}
-use Rattle.image.specs.Load.{whole, isImage, loadOf}
+use Rattle.image.specs.Load.{whole, isImage, stateIn, loadOf}
 use Rattle.image.specs.declared.Loaded.{Loaded}
 use Rattle.image.proofs.RoundTrip.{saved-length}
-use Rattle.link.specs.Lists.{imagesOf, partsOf, allImages, recordIn, loadedIn, Looks, roundIn, passedIn}
+use Rattle.link.specs.Lists.{imagesOf, partsOf, statesOf, allImages, recordIn, loadedIn, Looks, roundIn, passedIn}
 
 -- ---- parts
 
@@ -47,19 +47,29 @@ images-next [] p = and-true (isImage p)
     and-true false = refl
 images-next (q ∷ ps) p = ap (λ (b : Bool). isImage q && b) (images-next ps p) ∙ sym (and-assoc (isImage q) (allImages ps) (isImage p))
 
--- The state of a part, among all that are loaded.
-pub loaded-at : (count i : ℕ) (bytes : List ℕ) (d : Controller) → i < count → getD (loadedIn bytes count) i d ≡ recordIn (partAt i bytes)
+-- What is made of each part, at its place.
+pub made-at : (f : List ℕ → Controller) (count i : ℕ) (bytes : List ℕ) (d : Controller) → i < count → getD (map f (partsOf count bytes)) i d ≡ f (partAt i bytes)
 unfolding partsOf
-loaded-at zero i bytes d l = absurd (omega arith)
-loaded-at (suc count) zero bytes d l = refl
-loaded-at (suc count) (suc i) bytes d l =
+made-at f zero i bytes d l = absurd (omega arith)
+made-at f (suc count) zero bytes d l = refl
+made-at f (suc count) (suc i) bytes d l =
     let next : 74 + i * 74 ≡ suc i * 74 = omega arith in
-    loaded-at count i (drop 74 bytes) d (omega arith) ∙ rw (drop-drop (i * 74) 74 bytes, next)
+    made-at f count i (drop 74 bytes) d (omega arith) ∙ rw (drop-drop (i * 74) 74 bytes, next)
 
-pub loaded-length : (count : ℕ) (bytes : List ℕ) → length (loadedIn bytes count) ≡ count
+pub made-length : (f : List ℕ → Controller) (count : ℕ) (bytes : List ℕ) → length (map f (partsOf count bytes)) ≡ count
 unfolding partsOf
-loaded-length zero bytes = refl
-loaded-length (suc count) bytes = ap suc (loaded-length count (drop 74 bytes))
+made-length f zero bytes = refl
+made-length f (suc count) bytes = ap suc (made-length f count (drop 74 bytes))
+
+-- Where each part is an image, so is the one at a place.
+pub image-at : (count i : ℕ) (bytes : List ℕ) → i < count → allImages (partsOf count bytes) ≡ true → isImage (partAt i bytes) ≡ true
+unfolding partsOf allImages
+image-at zero i bytes l h = absurd (omega arith)
+image-at (suc count) zero bytes l h = and-eq-true-iff (isImage (take 74 bytes)) (allImages (partsOf count (drop 74 bytes))) .0 h .0
+image-at (suc count) (suc i) bytes l h =
+    let next : 74 + i * 74 ≡ suc i * 74 = omega arith in
+    let rest = and-eq-true-iff (isImage (take 74 bytes)) (allImages (partsOf count (drop 74 bytes))) .0 h .1 in
+    rw (drop-drop (i * 74) 74 bytes, next) at (image-at count i (drop 74 bytes) (omega arith) rest)
 
 -- ---- looking
 
@@ -78,10 +88,10 @@ module _ (bytes : List ℕ) (count i : ℕ) (seen : Seen) (all : Bool) (h : Look
       → Looking bytes count (i + 1) s (all && whole (l .verdict))
   unfolding loadOf isImage
   looks-on here l e s q =
-      let c : l .controller ≡ getD (loadedIn bytes count) i freshController = ap (λ (x : Loaded). x .controller) e ∙ sym (loaded-at count i bytes freshController here) in
+      let c : l .controller ≡ getD (loadedIn bytes count) i freshController = ap (λ (x : Loaded). x .controller) e ∙ sym (made-at recordIn count i bytes freshController here) in
       record {
         within = omega arith;
-        so-far = q ∙ rw (h .so-far, c) (seen-next begun i (loadedIn bytes count) freshController (rw (loaded-length count bytes) here));
+        so-far = q ∙ rw (h .so-far, c) (seen-next begun i (loadedIn bytes count) freshController (rw (made-length recordIn count bytes) here));
         images = rw (parts-next i bytes, images-next (partsOf i bytes) (partAt i bytes), ← h .images, e);
       }
 
@@ -102,22 +112,25 @@ unfolding imagesOf
 images-append [] ys = refl
 images-append (x ∷ xs) ys = ap (λ (l : List ℕ). saved x ++ l) (images-append xs ys) ∙ sym (append-assoc (saved x) (imagesOf xs) (imagesOf ys))
 
+abbrev states : List ℕ → ℕ → List Controller
+states bytes places = statesOf (partsOf places bytes)
+
 -- The first i of the parts are passed and written, and the rest is as it came.
 pub record Passing (before : List ℕ) (places : ℕ) (r : Errand) (i : ℕ) (bytes : List ℕ) (y : Round) : Type 0 where
   pub within : i ≤ places
-  pub gathered : y ≡ roundTo r (setOut r) i (loadedIn before places)
-  pub written : bytes ≡ imagesOf (take i (recordsTo r (setOut r) i (loadedIn before places))) ++ drop (i * 74) before
+  pub gathered : y ≡ roundTo r (setOut r) i (states before places)
+  pub written : bytes ≡ imagesOf (take i (recordsTo r (setOut r) i (states before places))) ++ drop (i * 74) before
 
 pub none-passed : (before : List ℕ) (places : ℕ) (r : Errand) (y : Round) → y ≡ setOut r → Passing before places r 0 before y
 unfolding imagesOf
-none-passed before places r y e = record { within = omega arith; gathered = e ∙ sym (round-none r (setOut r) (loadedIn before places)); written = refl }
+none-passed before places r y e = record { within = omega arith; gathered = e ∙ sym (round-none r (setOut r) (states before places)); written = refl }
 
 module _ (before : List ℕ) (places : ℕ) (r : Errand) (i : ℕ) (bytes : List ℕ) (y : Round) (h : Passing before places r i bytes y) where
   abbrev now-at : List Controller
-  now-at = recordsTo r (setOut r) i (loadedIn before places)
+  now-at = recordsTo r (setOut r) i (states before places)
 
   long : length now-at ≡ places
-  long = records-length r (setOut r) i (loadedIn before places) ∙ loaded-length places before
+  long = records-length r (setOut r) i (states before places) ∙ made-length stateIn places before
 
   front : length (imagesOf (take i now-at)) ≡ i * 74
   front = images-length (take i now-at) ∙ omega (arith, length-take-le i now-at (omega (arith, h .within, long)))
@@ -142,33 +155,39 @@ module _ (before : List ℕ) (places : ℕ) (r : Errand) (i : ℕ) (bytes : List
       take-all (x ∷ l) zero q = absurd (omega arith)
       take-all (x ∷ l) (suc n) q = ap (λ (t : List Controller). x ∷ t) (take-all l n (omega arith))
 
-  module _ (here : i < places) (l : Loaded) (e : l ≡ loadOf (partAt i bytes)) (p : Passed) (q : p ≡ passedOf r y (l .controller)) where
-    is-next : l .controller ≡ getD now-at i freshController
+  pub image-waits : allImages (partsOf places before) ≡ true → i < places → isImage (partAt i bytes) ≡ true
+  image-waits all here = rw part-waits (image-at places i before here all)
+
+  module _ (here : i < places) where
+    abbrev p : Passed
+    p = passedOf r y (stateIn (partAt i bytes))
+
+    is-next : stateIn (partAt i bytes) ≡ getD now-at i freshController
     is-next =
-        ap (λ (x : Loaded). x .controller) e ∙ ap recordIn part-waits ∙ sym (loaded-at places i before freshController here)
-        ∙ sym (record-waits r (setOut r) i (loadedIn before places) freshController)
+        ap stateIn part-waits ∙ sym (made-at stateIn places i before freshController here)
+        ∙ sym (record-waits r (setOut r) i (states before places) freshController)
 
-    passed-is : p ≡ passedOf r (roundTo r (setOut r) i (loadedIn before places)) (getD now-at i freshController)
-    passed-is = q ∙ rw (h .gathered, is-next)
+    passed-is : p ≡ passedOf r (roundTo r (setOut r) i (states before places)) (getD now-at i freshController)
+    passed-is = rw (h .gathered, is-next)
 
-    inside : i < length (loadedIn before places)
-    inside = rw (loaded-length places before) here
+    inside : i < length (states before places)
+    inside = rw (made-length stateIn places before) here
 
     pub passes-on : Passing before places r (i + 1) (take (i * 74) bytes ++ (saved (p .controller) ++ drop 74 (drop (i * 74) bytes))) (p .round)
     unfolding imagesOf
     passes-on =
         record {
           within = omega arith;
-          gathered = ap (λ (x : Passed). x .round) passed-is ∙ round-next r (setOut r) i (loadedIn before places) freshController inside;
+          gathered = ap (λ (x : Passed). x .round) passed-is ∙ round-next r (setOut r) i (states before places) freshController inside;
           written = rest ∙ sym (rw (next, ← grown, images-append, append-assoc, append-assoc));
         }
       where
         next : (i + 1) * 74 ≡ i * 74 + 74
         next = omega arith
 
-        grown : take i now-at ++ (p .controller ∷ []) ≡ take (i + 1) (recordsTo r (setOut r) (i + 1) (loadedIn before places))
+        grown : take i now-at ++ (p .controller ∷ []) ≡ take (i + 1) (recordsTo r (setOut r) (i + 1) (states before places))
         grown =
-            rw (← records-next r (setOut r) i (loadedIn before places) freshController inside, passed-is, add-one i)
+            rw (← records-next r (setOut r) i (states before places) freshController inside, passed-is, add-one i)
             (sym (take-suc-set now-at i _ (rw long here)))
 
         rest : take (i * 74) bytes ++ (saved (p .controller) ++ drop 74 (drop (i * 74) bytes)) ≡ imagesOf (take i now-at) ++ (saved (p .controller) ++ drop (i * 74 + 74) before)

@@ -107,6 +107,12 @@ octets-take (suc n) [] o i = omega arith
 octets-take (suc n) (b ∷ l) o zero = o zero
 octets-take (suc n) (b ∷ l) o (suc i) = octets-take n l (λ j. o (suc j)) i
 
+-- So many as are passed are images too.
+pub images-passed : (v : Verdict) (m : ℕ) (bytes : List ℕ) → allImages (partsOf m bytes) ≡ true → allImages (partsOf (placesBy v m) bytes) ≡ true
+unfolding partsOf allImages
+images-passed (Sent e) m bytes h = h
+images-passed (Refused x) m bytes h = refl
+
 -- The images of their states are the bytes.
 pub images-back :
     (k : ℕ) (bytes : List ℕ) → Octets bytes → length bytes ≡ k * 74 → allImages (partsOf k bytes) ≡ true → imagesOf (map stateIn (partsOf k bytes)) ≡ bytes
@@ -161,7 +167,7 @@ module _ (bytes : List ℕ) (n w : ℕ) where
         verdict-is = sym (looked (length states) as-many) ∙ judged-seen states n w
 
     told-so : (v : Verdict) → toldAfter v (roundIn bytes (placesBy v count) (judgedAs v)) ≡ toldAfter v (roundTo (judgedAs v) (setOut (judgedAs v)) (placesBy v (length states)) states)
-    told-so (Sent e) = rw (loaded, as-many)
+    told-so (Sent e) = rw as-many
     told-so (Refused x) = refl
 
     -- A refused call passes none, and the bytes are the images of the states.
@@ -169,7 +175,7 @@ module _ (bytes : List ℕ) (n w : ℕ) where
         Octets bytes → length bytes ≡ count * 74 → (v : Verdict)
         → passedIn bytes (placesBy v count) (judgedAs v) ≡ imagesOf (recordsTo (judgedAs v) (setOut (judgedAs v)) (placesBy v (length states)) states)
     unfolding recordsTo imagesOf partsOf
-    left-so o whole (Sent e) = rw (loaded, as-many, drop-of-length-le bytes {i = count * 74} (omega (arith, whole)), append-nil)
+    left-so o whole (Sent e) = rw (as-many, drop-of-length-le bytes {i = count * 74} (omega (arith, whole)), append-nil)
     left-so o whole (Refused x) = sym (images-back count bytes o whole all)
 
     pub steps :

@@ -89,7 +89,7 @@ none-small (suc (suc zero)) = omega arith
 none-small (suc (suc (suc zero))) = omega arith
 none-small (suc (suc (suc (suc i)))) = omega arith
 
-shown-small : (c : Controller) → shown c < 512
+pub shown-small : (c : Controller) → shown c < 512
 unfolding toldOutputs
 shown-small c = pick (λ (v : Value). toldValue v < 512) (fits (c .machine)) (λ f. outputs-nine-bits (c .machine)) (λ f. omega arith)
 

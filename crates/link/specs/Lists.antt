@@ -44,8 +44,11 @@ abbrev pub partsIn : List ℕ → List (List ℕ)
 partsIn bytes = partsOf (imagesIn (length bytes)) bytes
 
 -- The states of the parts, ..
+abbrev pub statesOf : List (List ℕ) → List Controller
+statesOf parts = map stateIn parts
+
 abbrev pub statesIn : List ℕ → List Controller
-statesIn bytes = map stateIn (partsIn bytes)
+statesIn bytes = statesOf (partsIn bytes)
 
 -- .. where each is an image.
 unfoldable pub allImages : List (List ℕ) → Bool
@@ -96,9 +99,9 @@ pub record Looks (bytes : List ℕ) (count : ℕ) (l : Looked) : Type 0 where
   pub seen : l .seen ≡ seenTo begun count (loadedIn bytes count)
   pub whole : l .whole ≡ allImages (partsOf count bytes)
 
--- These are passed, and their images written over the parts; what is gathered, and the bytes.
+-- The first so many parts, where they are images, are passed in their place: what is gathered, and the bytes.
 abbrev pub roundIn : List ℕ → ℕ → Errand → Round
-roundIn bytes places r = roundTo r (setOut r) places (loadedIn bytes places)
+roundIn bytes places r = roundTo r (setOut r) places (statesOf (partsOf places bytes))
 
 abbrev pub passedIn : List ℕ → ℕ → Errand → List ℕ
-passedIn bytes places r = imagesOf (recordsTo r (setOut r) places (loadedIn bytes places)) ++ drop (places * BYTES) bytes
+passedIn bytes places r = imagesOf (recordsTo r (setOut r) places (statesOf (partsOf places bytes))) ++ drop (places * BYTES) bytes

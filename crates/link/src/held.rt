@@ -24,7 +24,7 @@ const UNFIT: u8 = 1;
 const UNFIT_RECORD: u32 = 0x1000_0000;
 
 // Writes an image into the bytes lent.
-pub(crate) fn put(image: [u8; image::BYTES], state: &mut [u8])
+fn put(image: [u8; image::BYTES], state: &mut [u8])
     requires { ⌜ length (now state) ≡ BYTES ⌝ }
     requires { ⌜ length image ≡ BYTES ⌝ }
     ensures { λ _. ⌜ now (state .exit) ≡ image ⌝ }

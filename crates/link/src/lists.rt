@@ -1,13 +1,19 @@
 // A list of states that the caller holds, as the bytes of their images, one after the other.
 ghost use mathlib.Core.Path.{_≡_};
+ghost use mathlib.Core.Bool.{true};
 ghost use Prim.Native.Nat.{_*_, _+_, _≤_, _<_, _^_};
 ghost use lib.ListN.{length, take, drop};
 ghost use Rattle.chassis.specs.Judge.{MOST};
 ghost use Rattle.image.specs.Layout.{BYTES};
-ghost use Rattle.image.specs.Load.{whole, loadOf};
-ghost use Rattle.link.specs.Lists.{countIn, Looks, roundIn, passedIn, refusedWith, toldIn, listIn, outputSets, chassisAs};
+ghost use Rattle.chassis.specs.Passing.{passedOf};
+ghost use Rattle.image.specs.Load.{whole, isImage, stateIn, loadOf};
+ghost use Rattle.image.specs.Save.{saved};
+ghost use Rattle.link.specs.Lists.{partsOf, allImages, countIn, Looks, roundIn, passedIn, refusedWith, toldIn, listIn, outputSets, chassisAs};
 use crate::Looked;
-use crate::held::put;
+use crate::held::dock_outputs;
+use crate::held::dock_step;
+use batch::answer_in;
+use bus::Reply;
 use chassis::Answer;
 use chassis::Errand;
 use chassis::MOST;
@@ -18,7 +24,6 @@ use chassis::Told;
 use image::Loaded;
 use image::Verdict;
 use image::load::load;
-use image::save::save;
 
 fn is_whole(verdict: Verdict) -> bool
     ensures { λ r. ⌜ r ≡ whole verdict ⌝ }
@@ -87,24 +92,34 @@ fn look(states: &[u8], count: usize) -> Looked
     Looked { seen, whole }
 }
 
-// The state of each part is passed, and its image written over the part: one at a time, so that no list of states is copied.
+// An image is passed: where the event reaches it, by the call on one state, whose record tells what it says on the bus.
+fn pass_part(part: &mut [u8], round: Round, errand: Errand) -> Round
+    requires { ⌜ isImage (now part) ≡ true ⌝ }
+    ensures { λ r. ⌜ r ≡ passedOf errand round (stateIn (now (part .entry))) .round ⌝ }
+    ensures { λ _. ⌜ now (part .exit) ≡ saved (passedOf errand round (stateIn (now (part .entry))) .controller) ⌝ }
+{
+    if errand.reaches(round.place) {
+        let answer = answer_in(dock_step(part, errand.word));
+        return round.gathered(answer.said(), answer.outputs());
+    }
+    let shown = dock_outputs(&*part) % 65536;
+    round.gathered(Reply::Nothing, shown as u16)
+}
+
+// The parts are passed one after the other, in their place: no list of states is copied.
 fn pass(states: &mut [u8], places: usize, errand: Errand) -> Round
     requires { ⌜ places ≤ MOST ⌝ }
     requires { ⌜ places * BYTES ≤ length (now states) ⌝ }
+    requires { ⌜ allImages (partsOf places (now states)) ≡ true ⌝ }
     ensures { λ r. ⌜ r ≡ roundIn (now (states .entry)) places errand ⌝ }
     ensures { λ _. ⌜ now (states .exit) ≡ passedIn (now (states .entry)) places errand ⌝ }
 {
     let mut round = errand.set_out();
     let mut i = 0;
     while i < places {
-        let loaded = load_at(&*states, i);
-        let controller = loaded.controller;
-        let passed = errand.passed(round, controller);
-        let after = passed.controller;
-        round = passed.round;
         let start = i * image::BYTES;
         let end = start + image::BYTES;
-        put(save(after), &mut states[start..end]);
+        round = pass_part(&mut states[start..end], round, errand);
         i += 1;
     }
     round

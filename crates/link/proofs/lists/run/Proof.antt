@@ -8,7 +8,7 @@ use borrow.Author.Needs.{needs}
 use borrow.Author.Tests.{not-true, not-false}
 use Rattle.chassis.proofs.Loops.{places-within}
 use Rattle.image.specs.Shape.{Octets}
-use Rattle.link.proofs.RanList.{count-none, Counted, counted, no-list, no-image, steps}
+use Rattle.link.proofs.RanList.{count-none, Counted, counted, no-list, no-image, images-passed, steps}
 use Rattle.link.proofs.lists.run.Statement.{statement}
 use Rattle.link.proofs.lists.run.Tie as tie
 
@@ -48,7 +48,9 @@ pass-requires c κs =
     let k = known here in
     let errand = c .before .before .errand in
     let few : c .places .result ≤ bytes here / 74 = rw (c .places .ensures, count-is here) (places-within (errand .result .verdict) (bytes here / 74)) in
-    (omega (arith, k .few), omega (arith, k .whole))
+    let look = c .before .before .before .before .before .before .look in
+    let all = sym (look .ensures .whole) ∙ not-false _ (c .before .before .before .before .if2 .left) in
+    (omega (arith, k .few), (omega (arith, k .whole), rw (c .places .ensures) (images-passed (errand .result .verdict) _ _ all)))
 
 returns-3 : tie.Need-returns-3
 returns-3 c =
