@@ -340,6 +340,12 @@ int main(void) {
     tell_wire();
     printf("words\n");
     tell_queue();
+    printf("chassis\n");
+    tell_chassis("a TICK, one controller", 1, 0xA000);
+    tell_chassis("a TICK, two", 2, 0xA000);
+    tell_chassis("a TICK, four", 4, 0xA000);
+    tell_chassis("PINS for one of four", 4, 0x80FF);
+    tell_chassis("a word refused with 2, four", 4, 0x0001);
     printf("calls\n");
     tell_both("dock_begin: a fresh image", library_begin, c_begin);
     tell_both("dock_outputs: an image loaded and tested", library_outputs, c_outputs);
@@ -349,10 +355,6 @@ int main(void) {
     tell_alone("dock_replay of 33 words", library_replay);
     tell_both("dock_wire_begin: a fresh image", library_wire_begin, c_wire_begin);
     tell_alone("dock_queue_begin: an empty queue", library_queue_begin);
-    tell_chassis("dock_chassis_step of one state: TICK", 1, 0xA000);
-    tell_chassis("dock_chassis_step of four: TICK", 4, 0xA000);
-    tell_chassis("dock_chassis_step of four: PINS for one", 4, 0x80FF);
-    tell_chassis("dock_chassis_step of four: a word refused with 2", 4, 0x0001);
     tell_alone("dock_pack", library_pack);
     tell_alone("dock_unpack", library_unpack);
     tell_alone("dock_version", library_version);

@@ -74,9 +74,13 @@ ratio() { awk -v one="$1" -v other="$2" 'BEGIN { printf "%.1f", one / other }'; 
 # measured PROCESSOR WHAT COLUMN
 measured() { awk -F'|' -v what="$2" -v column="$3" '$1 == what { print $column }' "$firmware/$1/measured"; }
 
-# The deepest stack of any call, of the library (column 4) or the C controller (5).
+# The deepest stack of any call but the chassis's, of the library (column 4) or the C controller (5).
 deepest() {
-    awk -F'|' -v column="$2" '$column > most { most = $column } END { print most + 0 }' "$firmware/$1/measured"
+    awk -F'|' -v column="$2" '
+        NF == 1 { several = $1 == "chassis" }
+        !several && $column > most { most = $column }
+        END { print most + 0 }
+    ' "$firmware/$1/measured"
 }
 
 # row WHAT FUNCTION: a row with what the function says of each processor.
@@ -181,6 +185,8 @@ $(tell_measured "$1" samples "instructions of a sample, by one call" "cell in C"
 
 $(tell_measured "$1" words "instructions of the queue" "queue in C")
 
+$(tell_measured "$1" chassis "instructions of the chassis's call")
+
 $(tell_measured "$1" calls "instructions of the other calls")
 
 END
@@ -246,11 +252,12 @@ $(tell_functions)
 
 $(tell_memory)
 
-The library keeps nothing but the state, 7 bytes for a wire cell and 261 for a queue where a firmware has one; the stack
-is free again after each call. The deepest stack is that of the deepest byte written. A frame may reserve bytes below it
+The library keeps nothing but the state, one for each controller of a chassis, and 7 bytes for a wire cell and 261 for a
+queue where a firmware has one; the stack is free again after each call. The deepest stack is that of the deepest byte
+written, by any call on one controller; the chassis's call has rows of its own below. A frame may reserve bytes below it
 that nothing was written to, and what an interrupt takes comes below the frame; so room for a call is the sum of the
-frames under it: its own, and for step, batch and replay that of \`link::held::run\`, besides which only one that
-clears bytes is called.
+frames under it: its own, and for step, batch, replay and the chassis's call that of \`link::held::run\`, besides which
+only one that clears bytes is called.
 
 $(tell_frames)
 

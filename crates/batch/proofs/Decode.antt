@@ -11,7 +11,7 @@ use Rattle.dock.specs.Answers.{refusalOf, replyOf, byteOf, outputsOf}
 use Rattle.dock.specs.declared.Answer.{Answer}
 use Rattle.dock.specs.declared.Answer.the-variants.{Done, Unfit, StrayBit, NotStarted}
 use Rattle.batch.specs.Record.{fields, recordNumber, bytesOf, recordOf}
-use Rattle.batch.specs.Decode.{numberOf, replyBy, answerBy, answerIn, decode}
+use Rattle.batch.specs.Decode.{numberOf, replyBy, answerBy, refusalBits, replyBits, byteBits, outputBits, answerIn, decode}
 
 -- Four bytes make the number again.
 bytes-back : (n : ℕ) → n < 4294967296 → numberOf (bytesOf n) ≡ n
@@ -24,16 +24,16 @@ fields-back :
 unfolding answerIn
 fields-back r p b o hr hp hb ho = rw (first, second, third, fourth)
   where
-    first : fields r p b o / 268435456 ≡ r
+    first : refusalBits (fields r p b o) ≡ r
     first = omega arith
 
-    second : fields r p b o / 33554432 % 8 ≡ p
+    second : replyBits (fields r p b o) ≡ p
     second = omega arith
 
-    third : fields r p b o / 131072 % 256 ≡ b
+    third : byteBits (fields r p b o) ≡ b
     third = omega arith
 
-    fourth : fields r p b o / 256 % 512 ≡ o
+    fourth : outputBits (fields r p b o) ≡ o
     fourth = omega arith
 
 -- An answer is the one with its numbers.
@@ -50,7 +50,7 @@ answer-back Unfit = refl
 answer-back (StrayBit o) = refl
 answer-back NotStarted = refl
 
-reply-small : (r : Reply) → replyNumber r < 8
+pub reply-small : (r : Reply) → replyNumber r < 8
 reply-small Nothing = omega arith
 reply-small Ack = omega arith
 reply-small NoAck = omega arith

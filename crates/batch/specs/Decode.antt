@@ -19,9 +19,22 @@ replyBy n byte = getD (Nothing ∷ Ack ∷ NoAck ∷ Driven byte ∷ []) n NotDr
 abbrev pub answerBy : ℕ → Reply → ℕ → Answer
 answerBy refusal reply outputs = getD (Done reply outputs ∷ Unfit ∷ StrayBit outputs ∷ []) refusal NotStarted
 
--- The answer that a record's 32 bits tell.
+-- The fields of a record's 32 bits, ..
+abbrev pub refusalBits : ℕ → ℕ
+refusalBits n = n / 2 ^ 28
+
+abbrev pub replyBits : ℕ → ℕ
+replyBits n = n / 2 ^ 25 % 8
+
+abbrev pub byteBits : ℕ → ℕ
+byteBits n = n / 2 ^ 17 % 256
+
+abbrev pub outputBits : ℕ → ℕ
+outputBits n = n / 2 ^ 8 % 512
+
+-- .. and the answer that they tell.
 unfoldable pub answerIn : ℕ → Answer
-answerIn n = answerBy (n / 2 ^ 28) (replyBy (n / 2 ^ 25 % 8) (n / 2 ^ 17 % 256)) (n / 2 ^ 8 % 512)
+answerIn n = answerBy (refusalBits n) (replyBy (replyBits n) (byteBits n)) (outputBits n)
 
 unfoldable pub decode : List ℕ → Answer
 decode r = answerIn (numberOf r)

@@ -16,5 +16,6 @@ pub mod AtPlace
 pub mod Reaches
 pub mod Usable
 pub mod Hears
+pub mod Widths
 pub mod Run
 pub mod Determined

@@ -7,7 +7,7 @@ use mathlib.Core.Path.{_≡_, refl, ap, sym, _∙_}
 use mathlib.Core.Bool.{Bool, true, false, _&&_, and-assoc, and-eq-true-iff}
 use mathlib.Core.List.{List, [], _∷_, _++_, map, append-assoc}
 use lib.ListN.{length, getD, take, drop, length-append, length-drop}
-use lib.Seq.{take-suc-set, take-at, drop-at, drop-drop, length-take-le}
+use lib.Seq.{getD-drop, take-suc-set, take-at, drop-at, drop-drop, length-take-le}
 use Rattle.dock.specs.Record.{freshController}
 use Rattle.dock.specs.declared.Controller.{Controller}
 use Rattle.chassis.specs.Looking.{begun, seenWith, seenTo}
@@ -20,6 +20,7 @@ use Rattle.chassis.proofs.Loops.{seen-none, seen-next, round-none, records-leng
 use Rattle.image.specs.Save.{saved}
 use Rattle.image.specs.Load.{whole, isImage, stateIn, loadOf}
 use Rattle.image.specs.declared.Loaded.{Loaded}
+use Rattle.image.specs.Shape.{Octets}
 use Rattle.image.proofs.RoundTrip.{saved-length}
 use Rattle.link.specs.Lists.{imagesOf, partsOf, statesOf, allImages, recordIn, loadedIn, Looks, roundIn, passedIn}
 
@@ -46,6 +47,16 @@ images-next [] p = and-true (isImage p)
     and-true true = refl
     and-true false = refl
 images-next (q ∷ ps) p = ap (λ (b : Bool). isImage q && b) (images-next ps p) ∙ sym (and-assoc (isImage q) (allImages ps) (isImage p))
+
+octets-take : (n : ℕ) (l : List ℕ) → Octets l → Octets (take n l)
+octets-take zero l o i = omega arith
+octets-take (suc n) [] o i = omega arith
+octets-take (suc n) (b ∷ l) o zero = o zero
+octets-take (suc n) (b ∷ l) o (suc i) = octets-take n l (λ j. o (suc j)) i
+
+-- The first part of bytes, and what follows it, are bytes.
+pub octets-part : (bytes : List ℕ) → Octets bytes → Octets (take 74 bytes) × Octets (drop 74 bytes)
+octets-part bytes o = (octets-take 74 bytes o, λ i. rw (getD-drop 74 bytes i 0) (o (74 + i)))
 
 -- What is made of each part, at its place.
 pub made-at : (f : List ℕ → Controller) (count i : ℕ) (bytes : List ℕ) (d : Controller) → i < count → getD (map f (partsOf count bytes)) i d ≡ f (partAt i bytes)

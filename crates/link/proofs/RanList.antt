@@ -6,7 +6,6 @@ use mathlib.Core.Logic.{_≢_, _⊎_, inl, inr, ⊎-elim}
 use mathlib.Core.Bool.{Bool, true, false, cond, not, _||_, and-eq-true-iff, true≢false}
 use mathlib.Core.List.{List, [], _∷_, map, append-nil}
 use lib.ListN.{length, take, drop, length-map, length-drop, take-append-drop, drop-of-length-le}
-use lib.Seq.{getD-drop}
 use lib.Dec.{eqb}
 use borrow.Author.Tests.{eq-eqb, eqb-true, le-ltb}
 use Rattle.dock.specs.declared.Controller.{Controller}
@@ -26,6 +25,7 @@ use Rattle.image.specs.Load.{isImage, stateIn, loadOf, stateBy}
 use Rattle.image.specs.Shape.{Octets}
 use Rattle.image.proofs.Whole.{image-whole}
 use Rattle.image.proofs.RoundTrip.{saved-loaded}
+use Rattle.link.proofs.Parts.{octets-part}
 use Rattle.link.specs.Lists.{imagesOf, imagesIn, notImages, countIn, partsOf, partsIn, statesIn, allImages, refusedWith, toldIn, listIn, recordIn, loadedIn, roundIn, passedIn}
 
 -- ---- the length
@@ -101,12 +101,6 @@ states-loaded (p ∷ ps) h =
     let b = and-eq-true-iff (isImage p) (allImages ps) .0 h in
     rw (state-loaded p (b .0), states-loaded ps (b .1))
 
-octets-take : (n : ℕ) (l : List ℕ) → Octets l → Octets (take n l)
-octets-take zero l o i = omega arith
-octets-take (suc n) [] o i = omega arith
-octets-take (suc n) (b ∷ l) o zero = o zero
-octets-take (suc n) (b ∷ l) o (suc i) = octets-take n l (λ j. o (suc j)) i
-
 -- So many as are passed are images too.
 pub images-passed : (v : Verdict) (m : ℕ) (bytes : List ℕ) → allImages (partsOf m bytes) ≡ true → allImages (partsOf (placesBy v m) bytes) ≡ true
 unfolding partsOf allImages
@@ -121,8 +115,9 @@ images-back zero [] o l h = refl
 images-back zero (b ∷ bytes) o l h = absurd (omega arith)
 images-back (suc k) bytes o l h =
     let b = and-eq-true-iff (isImage (take 74 bytes)) (allImages (partsOf k (drop 74 bytes))) .0 h in
-    let rest = images-back k (drop 74 bytes) (λ i. rw (getD-drop 74 bytes i 0) (o (74 + i))) (length-drop 74 bytes ∙ omega arith) (b .1) in
-    rw (saved-loaded (take 74 bytes) (octets-take 74 bytes o) (image-whole (take 74 bytes) (b .0)), rest) (take-append-drop 74 bytes)
+    let octets = octets-part bytes o in
+    let rest = images-back k (drop 74 bytes) (octets .1) (length-drop 74 bytes ∙ omega arith) (b .1) in
+    rw (saved-loaded (take 74 bytes) (octets .0) (image-whole (take 74 bytes) (b .0)), rest) (take-append-drop 74 bytes)
 
 -- ---- the call
 

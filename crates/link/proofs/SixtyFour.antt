@@ -5,7 +5,7 @@ use mathlib.Core.Path.{_≡_, refl}
 use mathlib.Core.Bool.{Bool, true, false}
 use mathlib.Core.List.{List, [], _∷_}
 use lib.Dec.{eqb, ltb}
-use lib.ListN.{length, getD}
+use lib.ListN.{length, getD, take, drop}
 use borrow.Author.Tests.{eqb-true, eqb-false, ltb-true, ltb-false}
 use Rattle.event.specs.Words.{unpacked}
 use Rattle.event.specs.declared.Unpacked.{Unpacked}
@@ -19,10 +19,9 @@ use Rattle.dock.specs.Record.{freshController}
 use Rattle.dock.specs.Step.{toldOutputs}
 use Rattle.dock.specs.declared.Controller.{Controller}
 use Rattle.dock.specs.declared.Told.{Told as Value}
-use Rattle.bus.specs.Reply.{replyNumber}
-use Rattle.bus.specs.declared.Reply.{Reply}
-use Rattle.bus.specs.declared.Reply.the-variants.{Nothing, Ack, NoAck, Driven, NotDriven}
+use Rattle.batch.proofs.Decode.{reply-small}
 use Rattle.chassis.specs.Chassis.{shown, toldOf}
+use Rattle.chassis.proofs.Widths.{Held, told-byte-wide}
 use Rattle.chassis.specs.Numbers.{refusalNumber, answerRefusal, answerReply, answerByte}
 use Rattle.chassis.specs.declared.Answer.{Answer}
 use Rattle.chassis.specs.declared.Answer.the-variants.{Done, Refused}
@@ -32,7 +31,10 @@ use Rattle.chassis.specs.declared.Told.{Told}
 use Rattle.chassis.proofs.Accepting.{sent}
 use Rattle.chassis.proofs.AtPlace.{at-each-place}
 use Rattle.chassis.proofs.Refusals.{exactly, refused-unchanged}
-use Rattle.link.specs.Lists.{notImages, partsIn, statesIn, allImages, toldIn, chassisAs}
+use Rattle.image.specs.Shape.{Octets}
+use Rattle.image.proofs.OpenRead.{held-byte-wide}
+use Rattle.link.proofs.Parts.{octets-part}
+use Rattle.link.specs.Lists.{imagesIn, notImages, partsOf, partsIn, statesOf, statesIn, allImages, refusedWith, toldIn, chassisAs}
 
 refusal-small : (x : Refusal) → refusalNumber x < 12
 refusal-small WrongLength = omega arith
@@ -41,13 +43,6 @@ refusal-small StrayBit = omega arith
 refusal-small Absent = omega arith
 refusal-small NotStarted = omega arith
 refusal-small AddressTaken = omega arith
-
-reply-small : (r : Reply) → replyNumber r < 8
-reply-small Nothing = omega arith
-reply-small Ack = omega arith
-reply-small NoAck = omega arith
-reply-small (Driven v) = omega arith
-reply-small NotDriven = omega arith
 
 pub answer-small : (a : Answer) → (answerRefusal a < 12) × (answerReply a < 8)
 answer-small (Done r) = (omega arith, reply-small r)
@@ -111,12 +106,26 @@ told-small cs n w i = go (eqb refusal 0) refl
     go true r = at-place (eqb-true refusal 0 r) (unpacked w) refl
     go false r = rw (refused-unchanged cs n w (eqb-false refusal 0 r) .outputs) (none-small i)
 
--- So each number of the answer stands in its bits, where the byte is a byte.
-pub list-fields : (bytes : List ℕ) (n w : ℕ) → answerByte (toldIn bytes n w .answer) < 256 → Fields (toldIn bytes n w) (chassisAs (toldIn bytes n w))
+-- ---- the byte is a byte
+
+states-hold : (k : ℕ) (bytes : List ℕ) → Octets bytes → Held (statesOf (partsOf k bytes))
+unfolding partsOf Held
+states-hold zero bytes o = tt
+states-hold (suc k) bytes o = let octets = octets-part bytes o in (held-byte-wide (take 74 bytes) (octets .0), states-hold k (drop 74 bytes) (octets .1))
+
+-- So each number of the answer stands in its bits.
+pub list-fields : (bytes : List ℕ) (n w : ℕ) → Octets bytes → Fields (toldIn bytes n w) (chassisAs (toldIn bytes n w))
 unfolding toldIn
-list-fields bytes n w b = fields (toldIn bytes n w) b small
+list-fields bytes n w o = fields (toldIn bytes n w) (by-verdict Byte (λ x. omega arith) told-byte) (λ i. by-verdict (Nine i) (λ x. none-small i) (told-small (statesIn bytes) n w i))
   where
-    small : (i : ℕ) → getD (toldIn bytes n w .outputs) i 0 < 512
-    small i =
-        pick (λ (t : Told). getD (t .outputs) i 0 < 512) (notImages (length bytes)) (λ e. none-small i)
-        (λ e. pick (λ (t : Told). getD (t .outputs) i 0 < 512) (allImages (partsIn bytes)) (λ f. told-small (statesIn bytes) n w i) (λ f. none-small i))
+    Byte : Told → Type 0
+    Byte t = answerByte (t .answer) < 256
+
+    Nine : ℕ → Told → Type 0
+    Nine i t = getD (t .outputs) i 0 < 512
+
+    told-byte : Byte (toldOf (statesIn bytes) n w)
+    told-byte = told-byte-wide (statesIn bytes) n w (states-hold (imagesIn (length bytes)) bytes o)
+
+    by-verdict : (P : Told → Type 0) → ((x : Refusal) → P (refusedWith x)) → P (toldOf (statesIn bytes) n w) → P (toldIn bytes n w)
+    by-verdict P refuses gives = pick P (notImages (length bytes)) (λ _. refuses WrongLength) (λ _. pick P (allImages (partsIn bytes)) (λ _. gives) (λ _. refuses Unfit))
