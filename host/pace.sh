@@ -6,7 +6,7 @@
 pace=$out/pace
 pace_flags=(-O3 -ffunction-sections -fdata-sections -Wno-override-module)
 
-# pace_objects TARGET: the library, the C controller, the wire cell and the queue in C.
+# pace_objects TARGET: the library, the C controller, the wire cell, the queue and the chassis in C.
 pace_objects() {
     local part
     mkdir -p "$pace/$1"
@@ -14,7 +14,7 @@ pace_objects() {
         cat "$pace/messages" >&2
         return 1
     }
-    for part in held wire queue; do
+    for part in held wire queue chassis; do
         "$tools/bin/clang" --target="$1" "${c_flags[@]}" "${pace_flags[@]}" -ffreestanding -nostdlibinc \
             -isystem "$small/libc" -c "$here/plain/$part.c" -o "$pace/$1/$part.o"
     done
@@ -29,9 +29,9 @@ time_pace() {
     fi
     pace_objects "$target"
     cc -std=gnu99 "${warnings[@]}" -O2 -I "$library" -I "$here/plain" "$here/c/pace.c" \
-        "$pace/$target"/{dock,held,wire,queue}.o -o "$pace/pace"
+        "$pace/$target"/{dock,held,wire,queue,chassis}.o -o "$pace/pace"
     echo "on this machine, $(uname -m), medians of $1 runs; batch: 16,384 events a call; step: one event a call;"
-    echo "in turns: a word is put and taken; 128: so many are put, and then taken"
+    echo "in turns: a word is put and taken; 128: so many are put, and then taken; four and one: so many controllers"
     "$pace/pace" "$1"
 }
 
@@ -64,7 +64,7 @@ count_pace() {
         -DPACE_COUNT -I "$library" -I "$here/plain" -c "$here/c/pace.c" -o "$pace/$target/count.o"
     "$tools/bin/clang" --target="$target" -Os -fno-builtin -ffreestanding -nostdlibinc -isystem "$small/libc" \
         -c "$small/memory.c" -o "$pace/$target/memory.o"
-    "$tools/bin/ld.lld" --gc-sections -o "$pace/count" "$pace/$target"/{count,dock,held,wire,queue,memory}.o
+    "$tools/bin/ld.lld" --gc-sections -o "$pace/count" "$pace/$target"/{count,dock,held,wire,queue,chassis,memory}.o
     echo
     printf '%-36s %8s %8s %6s %8s %8s %6s\n' "x86-64 instructions for each event" batch C ratio step C ratio
     row_of_counts ticks 0 96
@@ -78,6 +78,11 @@ count_pace() {
     echo
     printf '%-36s %8s %8s %6s %8s %8s %6s\n' "x86-64 instructions for each word" "in turns" C ratio 128 C ratio
     row_of_counts "a put and a take" 6 384
+    echo
+    printf '%-36s %8s %8s %6s %8s %8s %6s\n' "x86-64 instructions for each call" four C ratio one C ratio
+    row_of_counts ticks 7 96
+    row_of_counts "bus events, for the first" 8 96
+    row_of_counts "a realistic mix, for the first" 9 390
 }
 
 pace() {

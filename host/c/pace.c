@@ -1,9 +1,12 @@
-/* The library and the C controller on the same words, the wire cells of both on the same samples, and the queues of
- * both, made by one compiler: `pace REPEATS` tells the nanoseconds for each event, for each sample and for each word
- * that is put and taken on the machine itself, medians of so many runs of each, which take turns. With PACE_COUNT
+/* The library and the C controller on the same words, the wire cells of both on the same samples, the queues of both,
+ * and the chassis of both, made by one compiler: `pace REPEATS` tells the nanoseconds for each event, for each sample,
+ * for each word that is put and taken and for each call of a chassis on the machine itself, medians of so many runs of
+ * each, which take turns. With PACE_COUNT
  * defined it is a program without a system, `pace LIST SIDE COUNT`, that only gives the words, or the samples, to one
  * side, for an emulator to count the instructions. The lists are those of speed/src/lists.rs and speed/src/wire.rs; the
- * lists of samples come after those of words, and then the words that go through a queue, which are the mix. */
+ * lists of samples come after those of words, then the words that go through a queue, which are the mix, and then the
+ * lists of words again, for a chassis. */
+#include "chassis.h"
 #include "dock.h"
 #include "held.h"
 #include "queue.h"
@@ -16,6 +19,7 @@ enum { WORDS = 16384, PART = 256, LISTS = 3, SIDES = 4 };
 enum { SAMPLES = DOCK_MOST_SAMPLES, SAMPLE_PART = 512, SAMPLE_LISTS = 3 };
 
 static const uint16_t RESET = 0xC0BF, STOP = 0x2000, BYTE = 0x4000, TAKE_NACK = 0x6000, TICK = 0xA000;
+static const uint16_t LOCKED_RESET = 0xC2BF;
 static const uint16_t DEVICE = 0x80BF, DEVICE_AND_BUTTON = 0x809F, NOTHING = 0x80FF;
 static const uint16_t START = 0x0000, OWN_WRITE = 0x90, OWN_READ = 0x91;
 
@@ -288,6 +292,46 @@ static void plain_steps(const uint16_t *list, size_t count, uint8_t *into) {
 typedef void side_t(const uint16_t *list, size_t count, uint8_t *into);
 static side_t *const sides[SIDES] = {library_batch, plain_whole, library_steps, plain_steps};
 
+/* ---- several controllers ---- */
+
+static uint64_t answers[SIDES][WORDS];
+
+/* The first is the one that the lists are for; the others have a RESET at the addresses above it, and their locks
+ * driven, so that each shows in the answers. */
+static uint16_t reset_of(unsigned place) { return (uint16_t)(LOCKED_RESET + 0x400u * place); }
+
+static void library_chassis(unsigned controllers, const uint16_t *list, size_t count, uint64_t *into) {
+    uint8_t states[DOCK_CHASSIS_BYTES];
+    uint64_t length = controllers * (uint64_t)DOCK_STATE_BYTES;
+    for (unsigned i = 0; i < controllers; i++) {
+        dock_begin(states + i * DOCK_STATE_BYTES, DOCK_STATE_BYTES);
+    }
+    for (unsigned i = 0; i < controllers; i++) {
+        dock_chassis_step(states, length, i, reset_of(i));
+    }
+    for (size_t i = 0; i < count; i++) {
+        into[i] = dock_chassis_step(states, length, 0, list[i]);
+    }
+}
+
+static void plain_chassis(unsigned controllers, const uint16_t *list, size_t count, uint64_t *into) {
+    plain_chassis_begin(controllers);
+    for (unsigned i = 0; i < controllers; i++) {
+        plain_chassis_step(i, reset_of(i));
+    }
+    for (size_t i = 0; i < count; i++) {
+        into[i] = plain_chassis_step(0, list[i]);
+    }
+}
+
+static void library_four(const uint16_t *list, size_t count, uint64_t *into) { library_chassis(4, list, count, into); }
+static void plain_four(const uint16_t *list, size_t count, uint64_t *into) { plain_chassis(4, list, count, into); }
+static void library_one(const uint16_t *list, size_t count, uint64_t *into) { library_chassis(1, list, count, into); }
+static void plain_one(const uint16_t *list, size_t count, uint64_t *into) { plain_chassis(1, list, count, into); }
+
+typedef void chassis_t(const uint16_t *list, size_t count, uint64_t *into);
+static chassis_t *const chassis[SIDES] = {library_four, plain_four, library_one, plain_one};
+
 #ifdef PACE_COUNT
 
 static size_t number(const char *text) {
@@ -307,8 +351,10 @@ __attribute__((used, noreturn)) static void begin(char **stack) {
         sides[side](words[list], count, records[0]);
     } else if (list < LISTS + SAMPLE_LISTS) {
         listens[side](samples[list - LISTS], count, heard[0]);
-    } else {
+    } else if (list == LISTS + SAMPLE_LISTS) {
         queues[side](words[LISTS - 1], count, taken[0]);
+    } else {
+        chassis[side](words[list - LISTS - SAMPLE_LISTS - 1], count, answers[0]);
     }
     __asm__ volatile("syscall" : : "a"(60), "D"(0));
     __builtin_unreachable();
@@ -375,6 +421,23 @@ static void time_queues(const uint16_t *list, size_t repeats) {
     }
 }
 
+static void time_chassis(const uint16_t *list, size_t repeats) {
+    for (size_t run = 0; run < repeats; run++) {
+        for (int side = 0; side < SIDES; side++) {
+            memset(answers[side], 0, sizeof answers[side]);
+            double from = now();
+            chassis[side](list, WORDS, answers[side]);
+            times[side][run] = (now() - from) / WORDS;
+        }
+    }
+}
+
+/* A chassis of four and one of one answer otherwise: each library's with the one in C. */
+static int chassis_agree(void) {
+    return memcmp(answers[0], answers[1], sizeof answers[0]) == 0 &&
+           memcmp(answers[2], answers[3], sizeof answers[2]) == 0;
+}
+
 static int all_agree(void) {
     for (int side = 1; side < SIDES; side++) {
         if (memcmp(records[0], records[side], sizeof records[0]) != 0 ||
@@ -383,14 +446,14 @@ static int all_agree(void) {
             return 0;
         }
     }
-    return 1;
+    return chassis_agree();
 }
 
 /* What the lists of one kind took. */
 static int tell(const char *name, size_t repeats) {
     double of[SIDES];
     if (!all_agree()) {
-        fprintf(stderr, "pace: the records or the words differ\n");
+        fprintf(stderr, "pace: the records, the words or the answers differ\n");
         return 0;
     }
     for (int side = 0; side < SIDES; side++) {
@@ -434,7 +497,18 @@ int main(int count, char **arguments) {
     }
     printf("\n%-36s %8s %8s %6s %8s %8s %6s\n", "ns for each word", "in turns", "C", "ratio", "128", "C", "ratio");
     time_queues(words[LISTS - 1], (size_t)repeats);
-    return !tell("a put and a take", (size_t)repeats);
+    if (!tell("a put and a take", (size_t)repeats)) {
+        return 1;
+    }
+    printf("\n%-36s %8s %8s %6s %8s %8s %6s\n", "ns for each call of a chassis", "four", "C", "ratio", "one", "C",
+           "ratio");
+    for (int list = 0; list < LISTS; list++) {
+        time_chassis(words[list], (size_t)repeats);
+        if (!tell(names[list], (size_t)repeats)) {
+            return 1;
+        }
+    }
+    return 0;
 }
 
 #endif

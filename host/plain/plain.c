@@ -368,6 +368,8 @@ static uint32_t step(struct dock *dock, uint16_t word) {
     return refusal << 28 | reply << 25 | byte << 17 | (uint32_t)outputs_of(dock) << 8;
 }
 
+#ifndef PLAIN_STEP_ONLY
+
 static void put_record(uint8_t *record, uint32_t bits) {
     record[0] = (uint8_t)(bits >> 24);
     record[1] = (uint8_t)(bits >> 16);
@@ -419,3 +421,5 @@ uint32_t plain_outputs(const uint16_t *words, size_t words_len) {
     run(&dock, words, words_len);
     return outputs_of(&dock);
 }
+
+#endif

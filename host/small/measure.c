@@ -1,10 +1,12 @@
 /* What calls take on the board: the stack that they write to and the instructions that they run, of the library and of
- * the C controller, or the wire cell or the queue in C, beside it. Prints a line for each, its numbers behind bars:
+ * the C controller, or the wire cell, the queue or the chassis in C, beside it. Prints a line for each, its numbers
+ * behind bars:
  *
  *   what | instructions of the library | of the C controller | stack of the library | of the C controller
  *
  * The stack below this program is painted before a call, and the deepest word that lost its paint is looked for after
  * it. How instructions are counted is in count.h. What an empty call takes is subtracted from both. */
+#include "../plain/chassis.h"
 #include "../plain/held.h"
 #include "../plain/queue.h"
 #include "../plain/wire.h"
@@ -58,6 +60,7 @@ static void library_queue_begin(void) { answer = dock_queue_begin(queue, sizeof 
 static void library_put(void) { answer = dock_queue_put(queue, sizeof queue, word); }
 static void library_take(void) { answer = dock_queue_take(queue, sizeof queue); }
 static void library_chassis(void) { chassis_answer = dock_chassis_step(states, states_len, 0, word); }
+static void c_chassis(void) { chassis_answer = plain_chassis_step(0, word); }
 static void c_begin(void) { plain_begin(); }
 static void c_step(void) { answer = plain_step(word); }
 static void c_batch(void) { plain_batch(words, words_len, records); }
@@ -313,19 +316,28 @@ static void tell_queue(void) {
 
 /* ---- several controllers ---- */
 
-/* So many, each with an own address. */
-static void make_chassis(unsigned count) {
+/* So many in both, each with an own address and both its locks driven. */
+static int make_chassis(unsigned count) {
+    int same = 1;
     states_len = count * DOCK_STATE_BYTES;
+    plain_chassis_begin(count);
     for (unsigned i = 0; i < count; i++) {
         dock_begin(states + i * DOCK_STATE_BYTES, DOCK_STATE_BYTES);
-        dock_chassis_step(states, states_len, i, (uint16_t)(0xC0FFu + 0x400u * i));
     }
+    for (unsigned i = 0; i < count; i++) {
+        uint16_t reset = (uint16_t)(0xC2FFu + 0x400u * i);
+        uint64_t reply = dock_chassis_step(states, states_len, i, reset);
+        same = same && dock_chassis_refusal(reply) == DOCK_ACCEPTED && reply == plain_chassis_step(i, reset);
+    }
+    return same;
 }
 
 static void tell_chassis(const char *what, unsigned count, uint16_t event) {
-    make_chassis(count);
+    if (!make_chassis(count)) {
+        printf("the two chassis differ\n");
+    }
     word = event;
-    tell_alone(what, library_chassis);
+    tell_both(what, library_chassis, c_chassis);
 }
 
 int main(void) {

@@ -8,6 +8,8 @@ wire_calls=(dock_wire_begin dock_wire_listen)
 plain_wire_calls=(plain_wire_begin plain_wire_listen)
 queue_calls=(dock_queue_put dock_queue_take)
 plain_queue_calls=(plain_queue_put plain_queue_take)
+chassis_calls=(dock_chassis_step)
+plain_chassis_calls=(plain_chassis_step)
 
 # link_calls MAP CALL.. -- FILE..: what these calls need, and nothing else.
 link_calls() {
@@ -42,8 +44,8 @@ bytes() {
     sections "$1" | awk '{ sum += $1 } END { print sum + 0 }'
 }
 
-# Into $firmware/PROCESSOR: all seventeen calls, those on a held state, the wire cell's, the queue's, and those in C
-# like them.
+# Into $firmware/PROCESSOR: all seventeen calls, those on a held state, the wire cell's, the queue's, the chassis', and
+# those in C like them.
 map_sizes() {
     local folder=$firmware/$1
     flags_of "$1"
@@ -58,6 +60,9 @@ map_sizes() {
     link_calls "$folder/queue.map" "${queue_calls[@]}" -- "$folder/libdock.a"
     compile_small "$folder/queue.o" "$here/plain/queue.c"
     link_calls "$folder/plain-queue.map" "${plain_queue_calls[@]}" -- "$folder/queue.o" "$folder/memory.o"
+    link_calls "$folder/chassis.map" "${chassis_calls[@]}" -- "$folder/libdock.a"
+    compile_small "$folder/chassis.o" "$here/plain/chassis.c"
+    link_calls "$folder/plain-chassis.map" "${plain_chassis_calls[@]}" -- "$folder/chassis.o" "$folder/memory.o"
     compile_small "$folder/held.o" "$here/plain/held.c"
     link_calls "$folder/plain.map" "${plain_calls[@]}" -- "$folder/held.o" "$folder/memory.o"
     (level=(-Os) && compile_small "$folder/held-small.o" "$here/plain/held.c")
@@ -65,7 +70,7 @@ map_sizes() {
 }
 
 measure() {
-    image measure "$1" "$small/measure.c" "$here"/plain/{held,wire,queue}.c
+    image measure "$1" "$small/measure.c" "$here"/plain/{held,wire,queue,chassis}.c
     emulate measure "$1" </dev/null >"$firmware/$1/measured"
 }
 
@@ -74,7 +79,7 @@ ratio() { awk -v one="$1" -v other="$2" 'BEGIN { printf "%.1f", one / other }'; 
 # measured PROCESSOR WHAT COLUMN
 measured() { awk -F'|' -v what="$2" -v column="$3" '$1 == what { print $column }' "$firmware/$1/measured"; }
 
-# The deepest stack of any call but the chassis's, of the library (column 4) or the C controller (5).
+# The deepest stack of any call but the chassis', of the library (column 4) or the C controller (5).
 deepest() {
     awk -F'|' -v column="$2" '
         NF == 1 { several = $1 == "chassis" }
@@ -100,6 +105,9 @@ wire_bytes_ratio() { ratio "$(wire_bytes "$1")" "$(plain_wire_bytes "$1")"; }
 queue_bytes() { bytes "$firmware/$1/queue.map"; }
 plain_queue_bytes() { bytes "$firmware/$1/plain-queue.map"; }
 queue_bytes_ratio() { ratio "$(queue_bytes "$1")" "$(plain_queue_bytes "$1")"; }
+chassis_bytes() { bytes "$firmware/$1/chassis.map"; }
+plain_chassis_bytes() { bytes "$firmware/$1/plain-chassis.map"; }
+chassis_bytes_ratio() { ratio "$(chassis_bytes "$1")" "$(plain_chassis_bytes "$1")"; }
 loop_bytes() { bytes "$firmware/$1/loop-calls.map"; }
 plain_bytes() { bytes "$firmware/$1/plain.map"; }
 plain_small_bytes() { bytes "$firmware/$1/plain-small.map"; }
@@ -128,6 +136,9 @@ tell_sizes() {
     row "library's queue: queue_put, queue_take" queue_bytes
     row "queue in C, with the same flags" plain_queue_bytes
     row "**library's queue / in C**" queue_bytes_ratio
+    row "library's chassis: chassis_step" chassis_bytes
+    row "chassis in C, with the same flags" plain_chassis_bytes
+    row "**library's chassis / in C**" chassis_bytes_ratio
     row "library: all seventeen calls" all_bytes
     row "library: the eight that the main loop calls" loop_bytes
 }
@@ -185,7 +196,7 @@ $(tell_measured "$1" samples "instructions of a sample, by one call" "cell in C"
 
 $(tell_measured "$1" words "instructions of the queue" "queue in C")
 
-$(tell_measured "$1" chassis "instructions of the chassis's call")
+$(tell_measured "$1" chassis "instructions of the chassis' call" "chassis in C")
 
 $(tell_measured "$1" calls "instructions of the other calls")
 
@@ -236,9 +247,9 @@ report() {
 # What a dock pays for the library on a small processor
 
 The library is made for each processor from the module of the one for x86-64; the C controller beside it is
-\`plain/plain.c\`, the first kind's job by hand, with its state in place, the wire cell in C \`plain/wire.c\`, and the
-queue in C \`plain/queue.c\`, which makes the same tests on the same bytes. All are compiled by the toolchain's clang at
-\`${level[*]}\`. How each number comes about, and what it means: the README of this folder.
+\`plain/plain.c\`, the first kind's job by hand, with its state in place, the chassis in C \`plain/chassis.c\`, one to four
+of it, the wire cell in C \`plain/wire.c\`, and the queue in C \`plain/queue.c\`, which makes the same tests on the same
+bytes. All are compiled by the toolchain's clang at \`${level[*]}\`. How each number comes about, and what it means: the README of this folder.
 
 ## Code
 
@@ -254,9 +265,9 @@ $(tell_memory)
 
 The library keeps nothing but the state, one for each controller of a chassis, and 7 bytes for a wire cell and 261 for a
 queue where a firmware has one; the stack is free again after each call. The deepest stack is that of the deepest byte
-written, by any call on one controller; the chassis's call has rows of its own below. A frame may reserve bytes below it
+written, by any call on one controller; the chassis' call has rows of its own below. A frame may reserve bytes below it
 that nothing was written to, and what an interrupt takes comes below the frame; so room for a call is the sum of the
-frames under it: its own, and for step, batch, replay and the chassis's call that of \`link::held::run\`, besides which
+frames under it: its own, and for step, batch, replay and the chassis' call that of \`link::held::run\`, besides which
 only one that clears bytes is called.
 
 $(tell_frames)
