@@ -8,7 +8,6 @@ use Rattle.dock.specs.declared.Controller.{Controller}
 use Rattle.chassis.specs.declared.Answer.{Answer}
 use Rattle.chassis.specs.declared.Chassis.{Chassis}
 use Rattle.chassis.specs.declared.Errand.{Errand}
-use Rattle.chassis.specs.declared.Passed.{Passed}
 use Rattle.chassis.specs.declared.Refusal.{Refusal}
 use Rattle.chassis.specs.declared.Round.{Round}
 use Rattle.chassis.specs.declared.Seen.{Seen}
@@ -23,7 +22,6 @@ use Rattle.chassis.proofs.Errand.places.Reads as places-reads
 use Rattle.chassis.proofs.Errand.set_out.Reads as out-reads
 use Rattle.chassis.proofs.Errand.reaches.Reads as reaches-reads
 use Rattle.chassis.proofs.Round.gathered.Reads as gathered-reads
-use Rattle.chassis.proofs.Errand.passed.Reads as passed-reads
 use Rattle.chassis.proofs.Errand.told.Reads as told-reads
 use Rattle.chassis.proofs.Refusal.number.Reads as number-reads
 use Rattle.chassis.proofs.Answer.refusal.Reads as refusal-reads
@@ -59,9 +57,6 @@ reaches-determined e n r s p q = p ∙ sym q
 
 pub gathered-determined : (y : Round) (x : Reply) (o : ℕ) (r s : Round) → gathered-reads.Post tt (y, (x, (o, tt))) r (y, (x, (o, tt))) → gathered-reads.Post tt (y, (x, (o, tt))) s (y, (x, (o, tt))) → r ≡ s
 gathered-determined y x o r s p q = p ∙ sym q
-
-pub passed-determined : (e : Errand) (y : Round) (c : Controller) (r s : Passed) → passed-reads.Post tt (e, (y, (c, tt))) r (e, (y, (c, tt))) → passed-reads.Post tt (e, (y, (c, tt))) s (e, (y, (c, tt))) → r ≡ s
-passed-determined e y c r s p q = p ∙ sym q
 
 pub told-determined : (e : Errand) (y : Round) (r s : Told) → told-reads.Post tt (e, (y, tt)) r (e, (y, tt)) → told-reads.Post tt (e, (y, tt)) s (e, (y, tt)) → r ≡ s
 told-determined e y r s p q = p ∙ sym q

@@ -54,7 +54,8 @@ pub struct Stepped {
     pub told: Told,
 }
 
-// ---- a call in parts, for who keeps records otherwise than in a list: each is looked at, the call is judged, and each is passed
+// ---- a call in parts, for who keeps records otherwise than in a list: each is looked at, the call is judged, and what each that the event reaches
+// replies is gathered
 
 // What becomes of a call.
 pub enum Verdict {
@@ -84,7 +85,7 @@ pub struct Round {
     pub place: usize,
 }
 
-// A record that has been passed.
+// A record that has been passed, as the list's loop does it and as a caller of the parts must.
 pub struct Passed {
     pub controller: Controller,
     pub round: Round,

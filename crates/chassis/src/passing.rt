@@ -104,7 +104,7 @@ impl Errand {
     }
 
     // A record gets the event, or is left as it is.
-    pub fn passed(self, round: Round, controller: Controller) -> Passed
+    fn passed(self, round: Round, controller: Controller) -> Passed
         ensures { λ r. ⌜ r ≡ passedOf self round controller ⌝ }
     {
         if !self.reaches(round.place) {

@@ -1,6 +1,6 @@
 -- What passing an image comes to: the call on one state tells its answer by a record's bits, and an image that the event doesn't reach is that of
 -- its state. Assumes nothing.
-use Prim.Native.Nat.{ℕ, _%_}
+use Prim.Native.Nat.{ℕ}
 use native.Mathlib.Omega.{arith}
 use mathlib.Core.Path.{_≡_, sym, _∙_}
 use mathlib.Core.Bool.{true}
@@ -19,7 +19,7 @@ use Rattle.image.specs.Shape.{Octets}
 use Rattle.image.proofs.OpenRead.{held-byte-wide}
 use Rattle.image.proofs.RoundTrip.{saved-loaded}
 use Rattle.image.proofs.Whole.{image-whole}
-use Rattle.link.specs.Answer.{toldAs}
+use Rattle.link.specs.Answer.{valueIn, toldAs}
 use Rattle.link.specs.Held.{answerIn as answerOf, steppedIn, outputsIn}
 use Rattle.link.proofs.SixtyFour.{shown-small}
 
@@ -42,6 +42,6 @@ module _ (part : List ℕ) (octets : Octets part) (image : isImage part ≡ true
   pub left-alone : part ≡ saved (stateIn part)
   left-alone = sym (saved-loaded part octets (image-whole part image))
 
-  pub outputs-told : toldAs (outputsIn part) % 65536 ≡ shown (stateIn part)
+  pub outputs-told : valueIn (toldAs (outputsIn part)) ≡ shown (stateIn part)
   unfolding outputsIn
   outputs-told = rw image (omega (arith, shown-small (stateIn part)))

@@ -1,5 +1,5 @@
 -- The one layout of an answer of the library: the refusal in bits 23-16, and a value below it. Document 01's answers as such numbers.
-use Prim.Native.Nat.{ℕ, _+_, _*_}
+use Prim.Native.Nat.{ℕ, _+_, _*_, _%_}
 use mathlib.Core.Bool.{cond}
 use lib.Dec.{eqb}
 use Rattle.dock.specs.Answers.{toldRefusal, toldValue}
@@ -13,6 +13,9 @@ use Rattle.batch.specs.declared.Outcome.{Outcome}
 
 abbrev pub both : ℕ → ℕ → ℕ
 both refusal value = refusal * 65536 + value
+
+abbrev pub valueIn : ℕ → ℕ
+valueIn answer = answer % 65536
 
 -- Beginning, on so many bytes: refusal 1 where they are not as many as an image has.
 abbrev pub begunAs : ℕ → ℕ → ℕ

@@ -10,6 +10,7 @@ ghost use Rattle.image.specs.Load.{whole, isImage, stateIn, loadOf};
 ghost use Rattle.image.specs.Save.{saved};
 ghost use Rattle.link.specs.Lists.{partsOf, allImages, countIn, Looks, roundIn, passedIn, refusedWith, toldIn, listIn, outputSets, chassisAs};
 use crate::Looked;
+use crate::answer::value;
 use crate::held::dock_outputs;
 use crate::held::dock_step;
 use batch::answer_in;
@@ -102,8 +103,7 @@ fn pass_part(part: &mut [u8], round: Round, errand: Errand) -> Round
         let answer = answer_in(dock_step(part, errand.word));
         return round.gathered(answer.said(), answer.outputs());
     }
-    let shown = dock_outputs(&*part) % 65536;
-    round.gathered(Reply::Nothing, shown as u16)
+    round.gathered(Reply::Nothing, value(dock_outputs(&*part)))
 }
 
 // The parts are passed one after the other, in their place: no list of states is copied.

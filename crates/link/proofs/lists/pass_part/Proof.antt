@@ -37,12 +37,12 @@ returns c =
 returns-2 : tie.Need-returns-2
 unfolding passedOf passedBy
 returns-2 c =
-    let s = c .before .before .before .before .before .before in
+    let s = c .before .before .before .before .before .before .before in
     let part = now (s .args .part) in
-    let octets : Octets part = λ i. omega (arith, c .before .before .before .before .before .slice-known .given i) in
-    let reaches = c .before .before .before .before .reaches in
-    rw (← reaches .ensures, c .before .before .before .if1 .left) (
-      rw (c .gathered2 .ensures, c .before .dock-outputs .ensures, outputs-told part octets (s .pre)),
+    let octets : Octets part = λ i. omega (arith, c .before .before .before .before .before .before .slice-known .given i) in
+    let reaches = c .before .before .before .before .before .reaches in
+    rw (← reaches .ensures, c .before .before .before .before .if1 .left) (
+      rw (c .gathered2 .ensures, c .before .value .ensures, c .before .before .dock-outputs .ensures, outputs-told part octets (s .pre)),
       left-alone part octets (s .pre),
     )
 
@@ -59,7 +59,7 @@ pass-part-spec =
     (λ c. search needs)
     returns
     (λ c κs. search needs)
-    (λ c. search needs)
+    (λ c κs. search needs)
     (λ c κs. search needs)
     (λ c. search needs)
     returns-2)
