@@ -332,12 +332,17 @@ static int make_chassis(unsigned count) {
     return same;
 }
 
+/* Two that answer otherwise can't be compared. */
+static int chassis_differ;
+
 static void tell_chassis(const char *what, unsigned count, uint16_t event) {
-    if (!make_chassis(count)) {
-        printf("the two chassis differ\n");
-    }
+    int same = make_chassis(count);
     word = event;
-    tell_both(what, library_chassis, c_chassis);
+    struct cost library = cost_of(library_chassis);
+    uint64_t told = chassis_answer;
+    struct cost c = cost_of(c_chassis);
+    chassis_differ = chassis_differ || !same || told != chassis_answer;
+    tell(what, library, c);
 }
 
 int main(void) {
@@ -372,5 +377,5 @@ int main(void) {
     tell_alone("dock_version", library_version);
     printf("state|%u|%u\n", (unsigned)sizeof state, (unsigned)plain_bytes());
     printf("held|%u|%u\n", (unsigned)sizeof held, (unsigned)sizeof plain_held);
-    return 0;
+    return chassis_differ;
 }

@@ -12,6 +12,7 @@ pub mod WrittenOut
 pub mod Places
 pub mod Accepting
 pub mod Refusals
+pub mod Order
 pub mod AtPlace
 pub mod Reaches
 pub mod Usable

@@ -14,6 +14,7 @@ use Rattle.batch.specs.declared.Outcome.{Outcome}
 abbrev pub both : ℕ → ℕ → ℕ
 both refusal value = refusal * 65536 + value
 
+-- The value, back again.
 abbrev pub valueIn : ℕ → ℕ
 valueIn answer = answer % 65536
 
