@@ -1,4 +1,6 @@
 // Many events in one call, and the four-byte record of an answer (document 01, "Replies and refusal numbers").
+#![tactic(auto)]
+
 ghost use Rattle.std.specs.Prelude.{◌≡◌, true, ◌++◌, length, drop, ◌*◌, ◌%◌, ◌≤◌};
 ghost use Rattle.machine.specs.Record.{fits};
 ghost use Rattle.dock.specs.Run.{after, answers_to};

@@ -2,6 +2,8 @@
 // debounce, moves, its two registers and its outputs. It knows nothing of the bus, of the other bay, nor of the kind
 // of its controller: where kinds differ it takes numbers and bools (document 03, "Bay moves"). One of these, whether a
 // wait hides the device, stays from one RESET to the next, and so is no part of a Setting.
+#![tactic(auto)]
+
 mod debounce;
 mod moves;
 mod outputs;

@@ -1,5 +1,7 @@
 // The bench: a dock, or several on one bus, to play on. Reads a line at a time, does what it asks and tells what happened; docs/BENCH.md
 // describes the lines.
+#![tactic(auto)]
+
 mod bays;
 mod docks;
 mod events;

@@ -1,4 +1,6 @@
 // Bits of a byte, each by its weight, and the straps, which are four bits with names.
+#![tactic(auto)]
+
 ghost use Rattle.std.specs.Prelude.{◌≡◌, ◌≤◌};
 ghost use Rattle.bits.specs.Bits.{has_weight, put_weight};
 

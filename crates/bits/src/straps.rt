@@ -14,12 +14,14 @@ pub fn smb_a(straps: u8) -> u8
     straps / 4 % 4
 }
 
+#[tactic(auto, unfolding(crate::specs::Straps::lock_def))]
 pub fn lock_def(straps: u8) -> bool
     ensures { result ≡ lock_def straps }
 {
     has(straps, 2)
 }
 
+#[tactic(auto, unfolding(crate::specs::Straps::lock_mode))]
 pub fn lock_mode(straps: u8) -> bool
     ensures { result ≡ lock_mode straps }
 {

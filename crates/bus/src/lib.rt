@@ -1,6 +1,8 @@
 // A bus command in progress (document 01, "Bus commands"; document 03, "Bus transfers"): what a START or a BYTE makes of
 // it in each kind of controller, the byte that an open read holds, and the replies. It knows addresses and bytes, and
 // nothing of what a register holds.
+#![tactic(auto)]
+
 ghost use Rattle.std.specs.Prelude.{◌≡◌};
 ghost use Rattle.bus.specs.Progress.{own_write_byte, own_read_byte, next_register, holding, known_to, started, heard, held_by};
 ghost use Rattle.bus.specs.Reply.{reply_number, reply_byte};

@@ -3,6 +3,8 @@
 // A piece is what one read gives, and its text is written at once. What is put into the buffers is proved (`pieces`), what
 // a read's answer means (`lines::reads`) and what an argument means (`arguments`); that the calls read and write these
 // buffers is assumed.
+#![tactic(auto)]
+
 mod arguments;
 mod number;
 mod pieces;

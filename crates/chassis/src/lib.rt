@@ -1,5 +1,7 @@
 // One to four controllers on one bus (document 02, request 9), built above the core and seeing no more than its promises. A lent
 // list of records takes one event a call: bus events, TIMEOUT and TICK go to every one, PINS and RESET to the one that is named.
+#![tactic(auto)]
+
 mod held;
 mod judge;
 mod looking;

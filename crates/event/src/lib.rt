@@ -1,5 +1,7 @@
 // Event words (document 01, "Event words"): what can happen to a controller, one kind with its own
 // data, and its packing into 16 bits. `specs/Words.antt` has the table and what each call answers.
+#![tactic(auto)]
+
 ghost use Rattle.std.specs.Prelude.{◌≡◌, ◌<◌, ◌≤◌, ◌+◌, ◌*◌, ◌^◌};
 ghost use Rattle.bits.specs.Straps.{MOST_STRAPS};
 ghost use Rattle.event.specs.Words.{KIND, bits_of, event_of, unpacked, is_reset, is_reset_word, reset_data, packed};

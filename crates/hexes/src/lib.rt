@@ -1,4 +1,6 @@
 // Numbers as texts: upper-case hex, as the trace and the bench write it.
+#![tactic(auto)]
+
 ghost use Rattle.std.specs.Prelude.{◌≡◌};
 ghost use Rattle.hexes.specs.Digit.{digit_for};
 

@@ -1,4 +1,6 @@
 // A controller's state as bytes: `save` writes them, and `load` answers any bytes at all.
+#![tactic(auto)]
+
 pub mod load;
 pub mod save;
 

@@ -1,5 +1,7 @@
 // Which kind a controller is of (document 02, request 2): the DBC98C51, or the CDP1020 of older backplanes; and the
 // numbers that the naming call has for them (document 03, "Naming the kind").
+#![tactic(auto)]
+
 ghost use Rattle.std.specs.Prelude.{◌≡◌};
 ghost use Rattle.kind.specs.Kind.{is_second, kind_by, kind_number, numbered};
 
@@ -42,6 +44,7 @@ impl Kind {
         }
     }
 
+    #[tactic(auto, unfolding(crate::specs::Kind::numbered))]
     pub fn numbered(number: u8) -> Numbered
         ensures { result ≡ numbered number }
     {

@@ -1,5 +1,7 @@
 // The plain machine of a two-bay dock (document 01; document 03 for the second kind): what it keeps, its registers, the acts
 // that it does and its outputs. It knows neither bus nor event words: a whole write is one act.
+#![tactic(auto)]
+
 mod acts;
 pub mod first_kind;
 mod in_force;

@@ -1,4 +1,6 @@
 // Words as bytes: each is two of them, the high one first.
+#![tactic(auto)]
+
 ghost use Rattle.std.specs.Prelude.{◌≡◌};
 ghost use Rattle.pairs.specs.Pairs.{wide, two_bytes};
 

@@ -1,5 +1,7 @@
 // An image as a text of hex digits: `write` makes one that a person can paste into a report, and `read` answers any text
 // with the state that it is of, or with what is wrong with it.
+#![tactic(auto)]
+
 mod digits;
 mod findings;
 mod ranges;

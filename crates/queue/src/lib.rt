@@ -1,5 +1,7 @@
 // The queue of waiting words (document 02, request 8), between an interrupt handler and the core: what is put in comes
 // out in the same order. It knows 16-bit words, and nothing of what they mean.
+#![tactic(auto)]
+
 mod numbers;
 mod record;
 mod turns;

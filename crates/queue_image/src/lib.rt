@@ -1,4 +1,6 @@
 // A queue as bytes: `save` writes them, and `load` answers any bytes at all.
+#![tactic(auto)]
+
 pub mod load;
 mod ring;
 pub mod save;

@@ -1,5 +1,7 @@
 // The bench's language: what a line that a person typed asks for, or what is wrong with it. docs/BENCH.md describes
 // it for people; specs/ has the same as definitions.
+#![tactic(auto)]
+
 mod arguments;
 mod hands;
 mod lines;

@@ -1,5 +1,7 @@
 // The registers that only the second kind has (document 03, "Registers" and "State"): the subsystem words, the form
 // factors and SFR. Each of their bytes takes its first write and no other. It knows nothing of addresses, bays or the bus.
+#![tactic(auto)]
+
 mod once;
 mod record;
 mod sfr;

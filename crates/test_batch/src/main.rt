@@ -1,4 +1,6 @@
 // The batch on the compiled code: document 01's examples of answer buffers, and the records of its twelve words.
+#![tactic(auto)]
+
 use batch::Batched;
 use dock::Controller;
 

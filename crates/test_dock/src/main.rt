@@ -1,6 +1,8 @@
 // Runs the compiled controller through the bench examples of document 01 that no theorem has, the readings that it
 // shuts out, every refusal of the single call and of the two questions, states that are fit though no event reaches
 // them, and each field at the end of its range. It prints what was done, in the paper's notation, and what came back.
+#![tactic(auto)]
+
 mod compare;
 mod events;
 mod show;

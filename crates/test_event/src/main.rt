@@ -1,5 +1,7 @@
 // Goes through all 65,536 words, and through all 131,072 RESET events, with the compiled code, and prints counts that a
 // reader can hold against the table of document 01, "Event words", with bit 12 of RESET as document 02, request 4, has it.
+#![tactic(auto)]
+
 use event::{Event, Packed, Unpacked};
 
 const OUT: i32 = 1;

@@ -2,6 +2,8 @@
 // controller and prints a line for each. A piece is what one read gives, and its lines are written at once. What is
 // put into the buffers is proved (`pieces`), and what a read's answer means (`lines::reads`); that the calls read and write
 // these buffers is assumed.
+#![tactic(auto)]
+
 mod pieces;
 
 ghost use Rattle.std.specs.Prelude.{◌≤◌, ◌≡◌, false, length};

@@ -1,5 +1,7 @@
 // Which bay wants the host (document 02, request 10): asked of a lent list of one to four controllers after an interrupt, above
 // the chassis. It changes nothing.
+#![tactic(auto)]
+
 mod held;
 mod list;
 mod looking;

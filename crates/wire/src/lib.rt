@@ -1,5 +1,7 @@
 // The wire cell (document 02, request 7): samples of the two bus lines in, event words out. It knows the lines and event
 // words, and nothing of a controller; driving SDAT is done outside.
+#![tactic(auto)]
+
 pub mod image;
 mod levels;
 pub mod listen;
