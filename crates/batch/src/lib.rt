@@ -18,7 +18,7 @@ pub const MOST_WORDS: usize = 16384;
 pub const RECORD: usize = 4;
 
 // What a batch answers.
-#[derive(Drop)]
+#[derive(Clone, Copy)]
 pub enum Outcome {
     // So many records were written.
     Done(usize),
@@ -30,7 +30,7 @@ pub enum Outcome {
     TooManyWords,
 }
 
-#[derive(Drop)]
+#[derive(Clone, Copy)]
 pub struct Batched {
     pub controller: Controller,
     pub outcome: Outcome,

@@ -30,7 +30,7 @@ use say::{said, say, say_if};
 use script::Line;
 
 // The docks on the bus, and what the lines to come depend on besides.
-#[derive(Drop)]
+#[derive(Clone, Copy)]
 struct Bench {
     chassis: Chassis,
     // The chosen one, which may be absent.
@@ -42,21 +42,21 @@ struct Bench {
 }
 
 // After a word: the bench, and the answer.
-#[derive(Drop)]
+#[derive(Clone, Copy)]
 struct Sent {
     bench: Bench,
     answer: Answer,
 }
 
 // After the TAKEs of a read: the bench, and how many bytes were driven.
-#[derive(Drop)]
+#[derive(Clone, Copy)]
 struct Took {
     bench: Bench,
     count: usize,
 }
 
 // What can be seen of a dock.
-#[derive(Drop)]
+#[derive(Clone, Copy)]
 struct Seen {
     // A RESET has come.
     started: bool,
@@ -73,7 +73,7 @@ struct Seen {
 }
 
 // A line as it was read.
-#[derive(Drop)]
+#[derive(Clone, Copy)]
 struct Typed {
     // How much of it has a place in the buffer.
     length: usize,
@@ -84,14 +84,14 @@ struct Typed {
 }
 
 // After a line: the bench, and whether the line was understood.
-#[derive(Drop)]
+#[derive(Clone, Copy)]
 struct Heeded {
     bench: Bench,
     understood: bool,
 }
 
 // The same, and whether there may be another line.
-#[derive(Drop)]
+#[derive(Clone, Copy)]
 struct Done {
     heeded: Heeded,
     more: bool,

@@ -13,7 +13,7 @@ use kind::Kind;
 // How far the open command has come. In the first kind a write is START, own write byte, register byte, data byte, STOP;
 // a read is START, own write byte, register byte, START, own read byte, TAKE. In the second a write has any number of
 // data bytes, each a whole write at once, and a read any number of ACKed TAKEs before its NACKed one.
-#[derive(Drop)]
+#[derive(Clone, Copy)]
 pub enum Progress {
     // No command is open.
     Idle,
@@ -37,7 +37,7 @@ pub enum Progress {
 }
 
 // What a BYTE makes of a command.
-#[derive(Drop)]
+#[derive(Clone, Copy)]
 pub enum Heard {
     // It is the next one of a form: the command goes on.
     On(Progress),
@@ -50,7 +50,7 @@ pub enum Heard {
 }
 
 // What an open read holds.
-#[derive(Drop)]
+#[derive(Clone, Copy)]
 pub enum Holds {
     // The byte for the next TAKE.
     Byte(u8),
@@ -59,7 +59,7 @@ pub enum Holds {
 }
 
 // What the host sees of an event.
-#[derive(Drop)]
+#[derive(Clone, Copy)]
 pub enum Reply {
     // START, STOP, PINS, TICK, RESET and TIMEOUT have no reply.
     Nothing,

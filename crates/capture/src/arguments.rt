@@ -5,7 +5,7 @@ ghost use Rattle.capture.specs.Arguments.{asks_words, wish_of, plain_setup, faul
 use crate::rows::Form;
 
 // One argument.
-#[derive(Drop)]
+#[derive(Clone, Copy)]
 pub enum Wish {
     Words,
     Reset(u16),
@@ -15,7 +15,7 @@ pub enum Wish {
 }
 
 // What is wrong with the arguments.
-#[derive(Drop)]
+#[derive(Clone, Copy)]
 pub enum Fault {
     NoFault,
     NoReset,
@@ -23,7 +23,7 @@ pub enum Fault {
 }
 
 // All arguments so far.
-#[derive(Drop)]
+#[derive(Clone, Copy)]
 pub struct Setup {
     pub form: Form,
     pub reset: u16,

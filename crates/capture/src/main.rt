@@ -29,7 +29,7 @@ const OUTPUT: usize = 75776;
 const PIECES: u64 = 0x20_0000_0000_0000;
 
 // After a piece: the capture, and whether there may be more.
-#[derive(Drop)]
+#[derive(Clone, Copy)]
 struct Piece {
     capture: Capture,
     more: bool,

@@ -15,7 +15,7 @@ use wire::{Given, Wire};
 const TICK_SAMPLES: u64 = 5000;
 
 // After the samples so far, and how many they are.
-#[derive(Drop)]
+#[derive(Clone, Copy)]
 pub struct Capture {
     pub wire: Wire,
     pub controller: Controller,
@@ -23,7 +23,7 @@ pub struct Capture {
 }
 
 // The capture afterwards, and how many bytes of text stand at the start of the buffer lent.
-#[derive(Drop)]
+#[derive(Clone, Copy)]
 pub struct Fed {
     pub capture: Capture,
     pub length: usize,

@@ -9,7 +9,7 @@ use dock::Answer;
 use lines::line::line;
 
 // What is written for each word.
-#[derive(Drop)]
+#[derive(Clone, Copy)]
 pub enum Form {
     Lines,
     Words,

@@ -18,7 +18,7 @@ pub use looking::looked_at;
 pub const MOST: usize = 4;
 
 // Why a call is refused.
-#[derive(Drop)]
+#[derive(Clone, Copy)]
 pub enum Refusal {
     // The list has no record, or more than four.
     WrongLength,
@@ -35,13 +35,13 @@ pub enum Refusal {
 }
 
 // What a call answers, but for the outputs.
-#[derive(Drop)]
+#[derive(Clone, Copy)]
 pub enum Answer {
     Done(Reply),
     Refused(Refusal),
 }
 
-#[derive(Drop)]
+#[derive(Clone, Copy)]
 pub struct Told {
     pub answer: Answer,
     // Those of the records after the event, in the list's order: 0 for one that isn't there or isn't started, and with a refusal.
@@ -49,13 +49,13 @@ pub struct Told {
 }
 
 // Records that a program holds by value: the list is the first so many of them.
-#[derive(Drop)]
+#[derive(Clone, Copy)]
 pub struct Chassis {
     pub records: [Controller; MOST],
     pub count: usize,
 }
 
-#[derive(Drop)]
+#[derive(Clone, Copy)]
 pub struct Stepped {
     pub chassis: Chassis,
     pub told: Told,
@@ -65,28 +65,28 @@ pub struct Stepped {
 // replies is gathered
 
 // Whether a list can be called at all, whatever the call.
-#[derive(Drop)]
+#[derive(Clone, Copy)]
 pub enum Listed {
     Usable,
     Refused(Refusal),
 }
 
 // What becomes of a call.
-#[derive(Drop)]
+#[derive(Clone, Copy)]
 pub enum Verdict {
     Sent(Event),
     Refused(Refusal),
 }
 
 // How the records of a list stand on the bus, as far as they have been looked at; the places behind them are nobody's.
-#[derive(Drop)]
+#[derive(Clone, Copy)]
 pub struct Seen {
     pub standings: [Standing; MOST],
     pub count: usize,
 }
 
 // A call that has been judged.
-#[derive(Drop)]
+#[derive(Clone, Copy)]
 pub struct Errand {
     pub verdict: Verdict,
     // The record that PINS or RESET names.
@@ -95,7 +95,7 @@ pub struct Errand {
 }
 
 // What is gathered while the records get the event, one after the other.
-#[derive(Drop)]
+#[derive(Clone, Copy)]
 pub struct Round {
     pub reply: Reply,
     pub outputs: [u16; MOST],
@@ -104,14 +104,14 @@ pub struct Round {
 }
 
 // A record that has been passed, as the list's loop does it and as a caller of the parts must.
-#[derive(Drop)]
+#[derive(Clone, Copy)]
 pub struct Passed {
     pub controller: Controller,
     pub round: Round,
 }
 
 // Four places whose first so many records took a call.
-#[derive(Drop)]
+#[derive(Clone, Copy)]
 struct Lent {
     records: [Controller; MOST],
     told: Told,

@@ -16,14 +16,14 @@ use bus::{Progress, Reply};
 use machine::{Act, Machine};
 
 // Any value of any field may come in; `fit` tells the ones that the rules can step.
-#[derive(Drop)]
+#[derive(Clone, Copy)]
 pub struct Controller {
     pub machine: Machine,
     pub progress: Progress,
 }
 
 // What the single call answers.
-#[derive(Drop)]
+#[derive(Clone, Copy)]
 pub enum Answer {
     // The event was acted on: the reply, and the outputs afterwards.
     Done(Reply, u16),
@@ -35,14 +35,14 @@ pub enum Answer {
     NotStarted,
 }
 
-#[derive(Drop)]
+#[derive(Clone, Copy)]
 pub struct Stepped {
     pub controller: Controller,
     pub answer: Answer,
 }
 
 // What the single call comes to where the state is fit.
-#[derive(Drop)]
+#[derive(Clone, Copy)]
 pub struct Went {
     pub controller: Controller,
     pub answer: Answer,
@@ -51,7 +51,7 @@ pub struct Went {
 }
 
 // What an event that isn't refused comes to.
-#[derive(Drop)]
+#[derive(Clone, Copy)]
 pub struct Turn {
     // How far the command has come then.
     pub progress: Progress,
@@ -60,7 +60,7 @@ pub struct Turn {
 }
 
 // What it leaves.
-#[derive(Drop)]
+#[derive(Clone, Copy)]
 struct Taken {
     controller: Controller,
     // It is one that leaves the outputs as they were.
@@ -68,14 +68,14 @@ struct Taken {
 }
 
 // What an event has the machine do.
-#[derive(Drop)]
+#[derive(Clone, Copy)]
 pub enum Deed {
     NoDeed,
     Does(Act),
 }
 
 // What the call that names a kind answers.
-#[derive(Drop)]
+#[derive(Clone, Copy)]
 pub enum Naming {
     // The name is stored.
     Stored,
@@ -85,21 +85,21 @@ pub enum Naming {
     NoSuchKind,
 }
 
-#[derive(Drop)]
+#[derive(Clone, Copy)]
 pub struct Renamed {
     pub controller: Controller,
     pub naming: Naming,
 }
 
 // What a question about a state answers.
-#[derive(Drop)]
+#[derive(Clone, Copy)]
 pub enum Told {
     Value(u16),
     Unfit,
 }
 
 // What the question for the byte that an open read holds answers.
-#[derive(Drop)]
+#[derive(Clone, Copy)]
 pub enum HeldByte {
     Byte(u8),
     // No read is open.
@@ -109,7 +109,7 @@ pub enum HeldByte {
 }
 
 // How a controller stands on a bus that it shares with others.
-#[derive(Drop)]
+#[derive(Clone, Copy)]
 pub struct Standing {
     pub fit: bool,
     // It has had a RESET: before that it hears nothing.

@@ -9,7 +9,7 @@ ghost use Rattle.event.specs.Words.{unpack_refusal, pack_refusal, pack_word};
 
 use bits::straps;
 
-#[derive(Drop)]
+#[derive(Clone, Copy)]
 pub enum Event {
     Start,
     Stop,
@@ -31,14 +31,14 @@ pub enum Event {
 }
 
 // What unpacking a word answers.
-#[derive(Drop)]
+#[derive(Clone, Copy)]
 pub enum Unpacked {
     Accepted(Event),
     StrayBit,
 }
 
 // What packing an event answers.
-#[derive(Drop)]
+#[derive(Clone, Copy)]
 pub enum Packed {
     Word(u16),
     StrapsTooLarge,

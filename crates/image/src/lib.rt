@@ -122,7 +122,7 @@ pub const PULSE: usize = 5;
 pub const WAIT: usize = 7;
 
 // What bytes are.
-#[derive(Drop)]
+#[derive(Clone, Copy)]
 pub enum Verdict {
     // An image: of a state that may be unfit.
     Whole,
@@ -136,7 +136,7 @@ pub enum Verdict {
 }
 
 // The state is a fresh one where the bytes are no image.
-#[derive(Drop)]
+#[derive(Clone, Copy)]
 pub struct Loaded {
     pub verdict: Verdict,
     pub controller: Controller,

@@ -5,14 +5,14 @@
 ghost use Rattle.std.specs.Prelude.{◌≡◌};
 ghost use Rattle.kind.specs.Kind.{is_second, kind_by, kind_number, numbered};
 
-#[derive(Drop)]
+#[derive(Clone, Copy)]
 pub enum Kind {
     First,
     Second,
 }
 
 // What a number names.
-#[derive(Drop)]
+#[derive(Clone, Copy)]
 pub enum Numbered {
     Names(Kind),
     Neither,

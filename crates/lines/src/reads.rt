@@ -2,7 +2,7 @@
 ghost use Rattle.std.specs.Prelude.{◌≡◌, length};
 ghost use Rattle.lines.specs.Reads.{came_of};
 
-#[derive(Drop)]
+#[derive(Clone, Copy)]
 pub enum Came {
     // So many bytes, at the start of the buffer.
     Bytes(usize),

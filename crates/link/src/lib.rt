@@ -17,14 +17,14 @@ use event::Event;
 use who::Asking;
 
 // What three numbers mean.
-#[derive(Drop)]
+#[derive(Clone, Copy)]
 enum Meant {
     This(Event),
     NoEvent,
 }
 
 // What has been seen of a list of images.
-#[derive(Drop)]
+#[derive(Clone, Copy)]
 struct Looked {
     seen: Seen,
     // Each part is an image.
@@ -32,7 +32,7 @@ struct Looked {
 }
 
 // What has been asked of a list of images.
-#[derive(Drop)]
+#[derive(Clone, Copy)]
 struct Asked {
     asking: Asking,
     // Each part is an image.

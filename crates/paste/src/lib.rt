@@ -15,7 +15,7 @@ use image::Verdict;
 pub const DIGITS: usize = 2 * image::BYTES;
 
 // What a text is.
-#[derive(Drop)]
+#[derive(Clone, Copy)]
 pub enum Finding {
     // The image of a fit state.
     Fit,
@@ -32,7 +32,7 @@ pub enum Finding {
 }
 
 // A number that is out of its range.
-#[derive(Drop)]
+#[derive(Clone, Copy)]
 pub struct Out {
     // Where it begins in the image: of a pulse and of a wait the place of the high byte.
     pub at: usize,
@@ -41,7 +41,7 @@ pub struct Out {
     pub last: u16,
 }
 
-#[derive(Drop)]
+#[derive(Clone, Copy)]
 pub struct Pasted {
     pub finding: Finding,
     // What the digits come to; 0 where they are not as many as an image has.

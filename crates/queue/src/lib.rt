@@ -11,7 +11,7 @@ pub const PLACES: usize = 128;
 
 // A ring: `count` words wait, the oldest at `start`, each next one a place further, and after place 127 comes place 0.
 // At the other places may be anything. Any value of any field may come in; a call refuses what isn't fit.
-#[derive(Drop)]
+#[derive(Clone, Copy)]
 pub struct Queue {
     pub words: [u16; PLACES],
     pub start: u16,
@@ -19,7 +19,7 @@ pub struct Queue {
 }
 
 // What became of a put or a take.
-#[derive(Drop)]
+#[derive(Clone, Copy)]
 pub enum Outcome {
     Put,
     // The oldest word.
@@ -33,7 +33,7 @@ pub enum Outcome {
 }
 
 // What both calls answer.
-#[derive(Drop)]
+#[derive(Clone, Copy)]
 pub struct Answer {
     pub queue: Queue,
     pub outcome: Outcome,

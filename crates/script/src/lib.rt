@@ -13,7 +13,7 @@ use event::Event;
 pub use lines::{argument, meaning};
 
 // The word that a line begins with.
-#[derive(Drop)]
+#[derive(Clone, Copy)]
 pub enum Verb {
     Reset,
     Pins,
@@ -39,7 +39,7 @@ pub enum Verb {
 }
 
 // The word that a line about a bay begins with: what a person does there.
-#[derive(Drop)]
+#[derive(Clone, Copy)]
 pub enum Hand {
     Insert,
     Remove,
@@ -50,7 +50,7 @@ pub enum Hand {
 }
 
 // What a line asks for.
-#[derive(Drop)]
+#[derive(Clone, Copy)]
 pub enum Order {
     // One event.
     Event(Event),
@@ -89,7 +89,7 @@ pub enum Order {
 }
 
 // What a line means.
-#[derive(Drop)]
+#[derive(Clone, Copy)]
 pub enum Line {
     // Nothing but blanks and a comment.
     Blank,
@@ -103,7 +103,7 @@ pub enum Line {
 }
 
 // What a name stands for.
-#[derive(Drop)]
+#[derive(Clone, Copy)]
 enum Named {
     This(Verb),
     AtBay(Hand),
@@ -111,21 +111,21 @@ enum Named {
 }
 
 // A text as a byte, 0 where it isn't one.
-#[derive(Drop)]
+#[derive(Clone, Copy)]
 struct Octet {
     good: bool,
     value: u8,
 }
 
 // A text as a number of 16 bits, 0 where it isn't one.
-#[derive(Drop)]
+#[derive(Clone, Copy)]
 pub struct Number {
     pub good: bool,
     pub value: u16,
 }
 
 // A text as two bytes.
-#[derive(Drop)]
+#[derive(Clone, Copy)]
 struct Pair {
     good: bool,
     first: u8,

@@ -6,7 +6,7 @@ mod once;
 mod record;
 mod sfr;
 
-#[derive(Drop)]
+#[derive(Clone, Copy)]
 pub struct Second {
     // Subsystem vendor and subsystem, low byte first: 08h to 0Bh.
     pub subsystem: [u8; Second::SUBSYSTEM],

@@ -6,7 +6,7 @@ use event::{Event, Packed, Unpacked};
 
 const OUT: i32 = 1;
 
-#[derive(Drop)]
+#[derive(Clone, Copy)]
 struct Tally {
     accepted: u32,
     // Accepted, and converted back to what it was.

@@ -19,7 +19,7 @@ const INPUT: usize = 8192;
 const OUTPUT: usize = 65552;
 
 // After a piece: the trace, and whether there may be more.
-#[derive(Drop)]
+#[derive(Clone, Copy)]
 struct Piece {
     trace: Trace,
     more: bool,

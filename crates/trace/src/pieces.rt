@@ -9,20 +9,20 @@ use dock::Controller;
 use lines::line::{LINE, line};
 
 // The byte of a word that has come without the other.
-#[derive(Drop)]
+#[derive(Clone, Copy)]
 pub enum Waiting {
     Nothing,
     High(u8),
 }
 
-#[derive(Drop)]
+#[derive(Clone, Copy)]
 pub struct Trace {
     pub controller: Controller,
     pub waiting: Waiting,
 }
 
 // After a piece: the trace, and how many bytes of text stand at the start of the buffer lent.
-#[derive(Drop)]
+#[derive(Clone, Copy)]
 pub struct Fed {
     pub trace: Trace,
     pub length: usize,

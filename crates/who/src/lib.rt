@@ -12,7 +12,7 @@ pub use held::ask_held;
 pub use list::ask;
 
 // What the question answers. Controllers and their bays count from 0, and the bays looked at from 1.
-#[derive(Drop)]
+#[derive(Clone, Copy)]
 pub enum Answer {
     // The first bay that wants the host, in the list's order and bay 0 of each controller first: its controller, which of the
     // two it is, and how many were looked at up to it.
@@ -29,7 +29,7 @@ pub enum Answer {
 // ---- the question in parts, for who keeps records otherwise than in a list: each is looked at, and then the answer is told
 
 // What the records of a list come to, as far as they have been looked at.
-#[derive(Drop)]
+#[derive(Clone, Copy)]
 pub struct Asking {
     pub seen: Seen,
     pub first: Answer,

@@ -11,7 +11,7 @@ mod record;
 use event::Event;
 
 // The lines as the last sample showed them.
-#[derive(Drop)]
+#[derive(Clone, Copy)]
 pub struct Lines {
     pub sdat: bool,
     // For how many samples in a row SCLK has been low, at most 17,501: it is high exactly where this is 0.
@@ -19,7 +19,7 @@ pub struct Lines {
 }
 
 // What the bits that come are part of.
-#[derive(Drop)]
+#[derive(Clone, Copy)]
 pub enum Listening {
     // Bits count for nothing until a START.
     Nothing,
@@ -32,7 +32,7 @@ pub enum Listening {
 }
 
 // What is listened for, how many of its nine bits have come, and the value of the first eight.
-#[derive(Drop)]
+#[derive(Clone, Copy)]
 pub struct Ear {
     pub listening: Listening,
     pub bits: u8,
@@ -40,14 +40,14 @@ pub struct Ear {
 }
 
 // The held state. Any value of any field may come in; `fit` tells the ones that a call accepts.
-#[derive(Drop)]
+#[derive(Clone, Copy)]
 pub struct Wire {
     pub lines: Lines,
     pub ear: Ear,
 }
 
 // What a sample shows, beside the lines as they were.
-#[derive(Drop)]
+#[derive(Clone, Copy)]
 pub enum Shown {
     Nothing,
     // SDAT fell, or rose, while SCLK stayed high.
@@ -60,28 +60,28 @@ pub enum Shown {
 }
 
 // The event that a sample gives, at most one.
-#[derive(Drop)]
+#[derive(Clone, Copy)]
 pub enum Given {
     Nothing,
     Event(Event),
 }
 
 // What the ear makes of a sample.
-#[derive(Drop)]
+#[derive(Clone, Copy)]
 pub struct Told {
     pub ear: Ear,
     pub given: Given,
 }
 
 // After a sample.
-#[derive(Drop)]
+#[derive(Clone, Copy)]
 pub struct Heard {
     pub wire: Wire,
     pub given: Given,
 }
 
 // What the call over samples answers.
-#[derive(Drop)]
+#[derive(Clone, Copy)]
 pub enum Outcome {
     // So many words were written.
     Done(usize),
@@ -93,14 +93,14 @@ pub enum Outcome {
     TooManySamples,
 }
 
-#[derive(Drop)]
+#[derive(Clone, Copy)]
 pub struct Listened {
     pub wire: Wire,
     pub outcome: Outcome,
 }
 
 // What bytes are.
-#[derive(Drop)]
+#[derive(Clone, Copy)]
 pub enum Loaded {
     // The image of this held state, fit or not.
     Held(Wire),
