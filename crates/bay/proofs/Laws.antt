@@ -5,7 +5,7 @@ use native.Mathlib.Omega.{arith}
 use native.Mathlib.Nat.{le_refl}
 use mathlib.Core.Path.{◌≡◌, refl, sym, ap, ◌∙◌}
 use mathlib.Core.Logic.{◌↔◌, ◌⊎◌, inl, inr, ⊎_elim}
-use mathlib.Core.Bool.{Bool, true, false, not, cond, ◌&&◌, ◌||◌, and-eq-true_iff, and_true, and-false, and-not_self, not-and_self, or-true, or-false, false≢true}
+use mathlib.Core.Bool.{Bool, true, false, not, cond, ◌&&◌, ◌||◌, and-eq-true_iff, and-true, and-false, and-not_self, not-and_self, or-true, or-false, false≢true}
 use lib.Dec.{eqb}
 use borrow.Author.Tests.{lt-ltb, le-leb, lt-leb, eqb-true, not-true}
 use Rattle.bits.specs.Bits.{bit, put}
@@ -124,7 +124,7 @@ pub stayed : (hides : Bool) (s : Setting) (b : Bay) → present hides (ticked_ba
 unfolding ticked_bay moved_bay moved_to state_after inserts
 stayed hides s b h =
     let q = sym (present_after_lem hides s b) ∙ h in
-    record { state_kept = rw (← (heeded_after hides s b), q, and-not_self, not-and_self); request_kept = rw (q, and-not_self); power_kept = rw (q, and-not_self) (and_true b.control.pwr_ctl) }
+    record { state_kept = rw (← (heeded_after hides s b), q, and-not_self, not-and_self); request_kept = rw (q, and-not_self); power_kept = rw (q, and-not_self) (and-true b.control.pwr_ctl) }
 
 -- All that a TICK makes of a wait, by the accepted levels before and after it.
 pub wait_ticked_lem : (hides : Bool) (s : Setting) (b : Bay) → (ticked_bay hides s b).wait ≡ wait_ticked hides s b

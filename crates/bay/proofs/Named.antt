@@ -3,7 +3,7 @@
 use Prim.Native.Nat.{ℕ, zero, suc, ◌+◌, ◌*◌, ◌/◌, ◌%◌, ◌-◌, ◌<◌}
 use mathlib.Core.Path.{◌≡◌, refl, sym, ◌∙◌}
 use mathlib.Core.Logic.{◌↔◌, ◌⊎◌, inl, inr}
-use mathlib.Core.Bool.{Bool, true, false, not, cond, ◌&&◌, ◌||◌, beq, and_true, and-false, or-true, and-eq-true_iff}
+use mathlib.Core.Bool.{Bool, true, false, not, cond, ◌&&◌, ◌||◌, beq, and-true, and-false, or-true, and-eq-true_iff}
 use mathlib.Core.List.{[], ◌∷◌, map}
 use lib.Dec.{eqb, ltb}
 use lib.ListN.{get_or}
@@ -112,9 +112,9 @@ unfolding bstr_written
 bstr_clears v b =
     record {
       remreq_cleared = λ h. rw h (and-false b.remreq_sts);
-      remreq_kept = λ h. rw h (and_true b.remreq_sts);
+      remreq_kept = λ h. rw h (and-true b.remreq_sts);
       devstschg_cleared = λ h. rw h (and-false b.devstschg);
-      devstschg_kept = λ h. rw h (and_true b.devstschg);
+      devstschg_kept = λ h. rw h (and-true b.devstschg);
       state_kept = refl;
       control_kept = refl;
       pulse_kept = refl;

@@ -4,7 +4,7 @@ use Prim.Native.Nat.{ℕ, zero, suc, ◌+◌, ◌-◌, ◌<◌, ◌≤◌}
 use native.Mathlib.Omega.{arith}
 use mathlib.Core.Path.{◌≡◌, refl, sym, ap, ◌∙◌}
 use mathlib.Core.Logic.{◌⊎◌, inl, inr}
-use mathlib.Core.Bool.{Bool, true, false, not, cond, ◌&&◌, ◌||◌, and_true, and-false, or-true, or-false}
+use mathlib.Core.Bool.{Bool, true, false, not, cond, ◌&&◌, ◌||◌, and-true, and-false, or-true, or-false}
 use lib.Dec.{eqb, ltb, leb}
 use borrow.Author.Tests.{ltb-true, ltb-false, lt-ltb, le-ltb, leb-true, leb-false, le-leb, lt-leb, eqb-true, eqb-false, eq-eqb, ne_eqb}
 use Rattle.bay.specs.Record.{N1394, NUSB, level, accepted_level, any_asserted, contact, present}
@@ -180,7 +180,7 @@ module _ (hides : Bool) (g : Setting) (p r : ℕ) (b : Bay) (sound : Sound hides
           go false e = rw (lt-ltb 0 (10 + w - n) (omega (arith, leb-false (10 + w) n e)))
 
       go : (t q : Bool) → leb 10 (p + k) ≡ q → (not (t && ltb 0 (cond (q && (t || en)) (10 + w - (p + k)) 0)) && q) ≡ leb (10 + cond t w 0) (p + k)
-      go true true e = rw (and_true (not (ltb 0 (10 + w - (p + k))))) (over (p + k) (leb-true 10 (p + k) e))
+      go true true e = rw (and-true (not (ltb 0 (10 + w - (p + k))))) (over (p + k) (leb-true 10 (p + k) e))
       go true false e = sym (lt-leb (10 + w) (p + k) (omega (arith, leb-false 10 (p + k) e)))
       go false true e = sym e
       go false false e = sym e
@@ -238,7 +238,7 @@ module _ (hides : Bool) (g : Setting) (p r : ℕ) (b : Bay) (sound : Sound hides
   coming_arrives k h = (coming_touches k h).moved ∙ rw (coming_so k).1 (at_once (eqb w 0) refl)
     where
       at_once : (t : Bool) → eqb w 0 ≡ t → cond (en && t) 1 0 ≡ arrived (suc k)
-      at_once true z = rw (le-leb (10 + w) (p + suc k) (omega (arith, eqb-true w 0 z)), early k (omega arith), and_true)
+      at_once true z = rw (le-leb (10 + w) (p + suc k) (omega (arith, eqb-true w 0 z)), early k (omega arith), and-true)
       at_once false z = rw (lt-leb (10 + w) (p + suc k) (omega (arith, eqb-false w 0 z)), and-false)
 
   -- It was before: it stays, ..
@@ -275,7 +275,7 @@ module _ (hides : Bool) (g : Setting) (p r : ℕ) (b : Bay) (sound : Sound hides
           (t e : Bool)
           → (((not (leb (10 + cond t w 0) (p + k)) && leb (10 + cond t w 0) (p + suc k)) && e) && (t || eqb w 0) || (not (leb (10 + cond t w 0) (p + k) && not (leb (10 + cond t w 0) (p + suc k))) && not ((not (leb (10 + cond t w 0) (p + k)) && leb (10 + cond t w 0) (p + suc k)) && e)) && (not t && eqb (cond (t || e) (10 + w - (p + k)) 0) 1))
           ≡ (e && eqb (p + suc k) (10 + w))
-      go true true = simp (and_true, and-false, or-false) shows
+      go true true = simp (and-true, and-false, or-false) shows
       go true false = simp and-false
       go false true = rw (le-leb 10 (p + k) h, le-leb 10 (p + suc k) (omega arith)) last
       go false false = rw (le-leb 10 (p + k) h, le-leb 10 (p + suc k) (omega arith))
@@ -332,7 +332,7 @@ module _ (hides : Bool) (g : Setting) (p r : ℕ) (b : Bay) (sound : Sound hides
       let state : (before k).state ≡ 1 = was ∙ rw (le-leb (10 + w) (p + k) h, e, lt-leb 5 (r + k) (omega arith)) in
       let untold : (before k).remreq_sts ≡ b.remreq_sts = coming_told k ∙ rw (lt-leb 5 (r + k) (omega arith)) (or-false b.remreq_sts) in
       coming_moves k (omega arith)
-      ∙ rw (later, and-false, coming_pressed k (omega arith) (rw (later, and-false)), f, le-leb (10 + v) (p + suc k) (there k h), untold, ap (λ n. eqb n 1) state, le-leb 5 (r + suc k) (omega arith), lt-ltb (r + 5 + w) p (omega arith), and_true)
+      ∙ rw (later, and-false, coming_pressed k (omega arith) (rw (later, and-false)), f, le-leb (10 + v) (p + suc k) (there k h), untold, ap (λ n. eqb n 1) state, le-leb 5 (r + suc k) (omega arith), lt-ltb (r + 5 + w) p (omega arith), and-true)
       (ap (λ n. cond (b.control.remreq_en && not b.remreq_sts) 3 n) state)
   seated_before k was h e false f =
       let later = not_now k h in

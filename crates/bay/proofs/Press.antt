@@ -3,7 +3,7 @@ use Prim.Native.Nat.{ℕ, zero, suc, ◌-◌, ◌/◌, ◌%◌, ◌<◌}
 use native.Mathlib.Omega.{arith}
 use mathlib.Core.Path.{◌≡◌, refl, sym, ap, ◌∙◌}
 use mathlib.Core.Logic.{◌⊎◌, inl, inr}
-use mathlib.Core.Bool.{Bool, true, false, not, cond, ◌&&◌, ◌||◌, beq, and_true, and-false, or-true, or-false, and-eq-true_iff, false≢true}
+use mathlib.Core.Bool.{Bool, true, false, not, cond, ◌&&◌, ◌||◌, beq, and-true, and-false, or-true, or-false, and-eq-true_iff, false≢true}
 use lib.Dec.{eqb, ltb}
 use borrow.Author.Tests.{eqb-true, eqb-false, ne_eqb, lt-ltb, ltb-true}
 use Rattle.bits.specs.Bits.{bit}
@@ -134,7 +134,7 @@ module _ (hides : Bool) (s : Setting) (b : Bay) (empty : b.state ≡ 0) (none : 
 
   shows : present hides (ticked_bay hides s b) ≡ not (hidden hides s.wait_ticks)
   unfolding present
-  shows = rw (now, begins_now, and_true) (either hides)
+  shows = rw (now, begins_now, and-true) (either hides)
     where
       either : (t : Bool) → not (t && ltb 0 (cond (t || b.control.devstschg_en) s.wait_ticks 0)) ≡ not (t && ltb 0 s.wait_ticks)
       either true = refl
@@ -160,7 +160,7 @@ module _ (hides : Bool) (s : Setting) (b : Bay) (empty : b.state ≡ 0) (none : 
         moved = inserted;
         waits = begins_now;
         device = shows;
-        told = change_told hides s b ∙ rw (absent, and-false, and_true, coming_changes hides b (ticked_bay hides s b) absent, shows);
+        told = change_told hides s b ∙ rw (absent, and-false, and-true, coming_changes hides b (ticked_bay hides s b) absent, shows);
       }
 
 -- A device comes to a bay that had none: contact is new, or it is no longer hidden. That is the one move, if it makes one, and a press in
@@ -214,5 +214,5 @@ press_then_write hides v t s b z p =
     record {
       requested = (write_table_lem hides v s (ticked_bay hides t b) (omega (arith, pressed.0)) 3 (omega arith)).1 (rw (pressed.0, z, and-false));
       told = stores.flags_kept.0 ∙ pressed.1;
-      power = stores.pwr_ctl ∙ rw p.stays (and_true (bit 0 v && bit 7 v));
+      power = stores.pwr_ctl ∙ rw p.stays (and-true (bit 0 v && bit 7 v));
     }

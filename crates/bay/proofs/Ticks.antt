@@ -1,7 +1,7 @@
 -- What a TICK comes to: where a device leaves, where none does, and where every level is the accepted one. Assumes nothing.
 use Prim.Native.Nat.{ℕ, ◌-◌}
 use mathlib.Core.Path.{◌≡◌, refl, ap, ◌∙◌}
-use mathlib.Core.Bool.{Bool, true, false, not, cond, ◌&&◌, ◌||◌, and_true, and-false, or-false, and-not_self, not-and_self, and-eq-true_iff}
+use mathlib.Core.Bool.{Bool, true, false, not, cond, ◌&&◌, ◌||◌, and-true, and-false, or-false, and-not_self, not-and_self, and-eq-true_iff}
 use mathlib.Core.List.{List, [], ◌∷◌}
 use lib.Dec.{eqb}
 use lib.ListN.{length, get_or}
@@ -34,14 +34,14 @@ module _ (hides : Bool) (ticks : ℕ) (b : Bay) (wait : ℕ) (n1394 nusb nremreq
   left e =
       let both = (and-eq-true_iff (present hides b) (not (present_after hides wait n1394 nusb))).0 e in
       let absent = not-true (present_after hides wait n1394 nusb) both.1 in
-      rw (e, absent, and_true) (simp (and-false, or-false))
+      rw (e, absent, and-true) (simp (and-false, or-false))
 
   pub stayed :
       leaves hides b wait n1394 nusb ≡ false
       → moved_to hides ticks b wait n1394 nusb nremreq
       ≡ after b n1394 nusb nremreq (state_after hides ticks b false (arrives hides b wait n1394 nusb) (heeded hides wait n1394 nusb nremreq)) (requested_after b (heeded hides wait n1394 nusb nremreq)) (b.devstschg || changes hides b wait n1394 nusb) b.control wait
   unfolding moved_to
-  stayed e = rw (e, and-false) (simp and_true)
+  stayed e = rw (e, and-false) (simp and-true)
 
 -- ---- every level is the accepted one
 

@@ -3,7 +3,7 @@
 use Prim.Native.Nat.{ℕ, ◌+◌, ◌-◌, ◌/◌, ◌%◌, ◌<◌}
 use native.Mathlib.Omega.{arith}
 use mathlib.Core.Path.{◌≡◌, refl, sym, ap, ◌∙◌}
-use mathlib.Core.Bool.{Bool, true, false, not, cond, ◌&&◌, ◌||◌, beq, and-eq-true_iff, and_assoc, and_true, and-false, or-true, or-false, false≢true}
+use mathlib.Core.Bool.{Bool, true, false, not, cond, ◌&&◌, ◌||◌, beq, and-eq-true_iff, and_assoc, and-true, and-false, or-true, or-false, false≢true}
 use mathlib.Core.List.{List, [], ◌∷◌, ◌++◌}
 use lib.Dec.{eqb, ltb, leb}
 use borrow.Author.Tests.{lt-ltb, not-true, not-false}
@@ -111,7 +111,7 @@ written_off :
     (c : Control) (s : Setting) (b : Bay) → (b.state ≡ 0) × (contact b ≡ true) × (b.control.devstschg_en ≡ true)
     → breaks false (bcer c s) b ≡ true → ((controlled_bay false c s b).wait ≡ 0) × ((controlled_bay false c s b).state ≡ asked_by (bcer c s))
 unfolding breaks controlled_bay wait_written state_written finds in_use present
-written_off c s b h q = (rw q, rw (h.1, h.2, h.0, and_true (asks c), and-false c.devstschg_en, and-false))
+written_off c s b h q = (rw q, rw (h.1, h.2, h.0, and-true (asks c), and-false c.devstschg_en, and-false))
 
 -- What doesn't break it off leaves it, but that a TICK takes one off it.
 one_less :
@@ -133,9 +133,9 @@ seating hides n b h e l =
       left = e;
       empty = three.0;
       touches = three.1;
-      device = rw (on, three.1) (simp and_true);
+      device = rw (on, three.1) (simp and-true);
       enable = three.2;
-      lamps = λ lit. (rw (on, ap (λ n. eqb n 2) three.0, ap (λ n. eqb n 0) three.0, ap (λ n. eqb n 1) three.0, and_true hides, and_true hides, or-false), rw (ap (λ n. eqb n 3) three.0));
+      lamps = λ lit. (rw (on, ap (λ n. eqb n 2) three.0, ap (λ n. eqb n 0) three.0, ap (λ n. eqb n 1) three.0, and-true hides, and-true hides, or-false), rw (ap (λ n. eqb n 3) three.0));
     }
 
 runs_on :
@@ -173,10 +173,10 @@ last true s b h e g =
     let over = wait_falls true s b touch still ∙ ap (λ n. n - 1) e in
     let absent = unseen_yet b (omega (arith, e)) in
     let device = (present_means true (ticked_bay true s b)).1 (still, λ _. over) in
-    let told : (ticked_bay true s b).devstschg ≡ (b.devstschg || shown_changes true b (ticked_bay true s b)) = change_told true s b ∙ rw (absent, and-false, and_true) in
+    let told : (ticked_bay true s b).devstschg ≡ (b.devstschg || shown_changes true b (ticked_bay true s b)) = change_told true s b ∙ rw (absent, and-false, and-true) in
     record {
       device = device;
-      inserted = coming true s b h absent device ∙ rw (and_true b.control.devstschg_en);
+      inserted = coming true s b h absent device ∙ rw (and-true b.control.devstschg_en);
       over = over;
       pressed = pressed_sets true s b;
       told = told;
@@ -192,7 +192,7 @@ last false s b h e g =
       inserted = (stayed false s b (device ∙ sym here)).state_kept ∙ rw (ap (λ n. eqb n 1) e);
       over = wait_falls false s b touch still ∙ ap (λ n. n - 1) e;
       pressed = pressed_sets false s b;
-      told = change_told false s b ∙ rw (device, and-false, and-false, and_true);
+      told = change_told false s b ∙ rw (device, and-false, and-false, and-true);
       unhidden = λ q. absurd (false≢true q);
     }
 

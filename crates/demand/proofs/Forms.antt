@@ -2,7 +2,7 @@
 -- complete or decided. Assumes nothing.
 use Prim.Native.Nat.{ℕ, suc}
 use Rattle.demand.specs.Bus.{BYTE, Bus, Slot, TAKE, bytes_in, fills, begins}
-use mathlib.Core.Bool.{Bool, ◌&&◌, ◌||◌, and-eq-true_iff, and-false, and_true, false, false≢true, or-false, or-true, true}
+use mathlib.Core.Bool.{Bool, ◌&&◌, ◌||◌, and-eq-true_iff, and-false, and-true, false, false≢true, or-false, or-true, true}
 use Rattle.kind.specs.declared.Kind.TheVariants.{First, Second}
 use Rattle.kind.specs.declared.Kind.{Kind}
 use mathlib.Core.List.{List, [], ◌++◌, ◌∷◌, map}
@@ -112,15 +112,15 @@ none_begins Second s es n =
 
 module _ (again last : Slot) (f : ℕ → Bus) (r : (n : ℕ) → again (f n) ≡ true) (l : (n : ℕ) → last (f n) ≡ false) where
   pub on_more : (ds : List ℕ) (e : Bus) → on again last (map f ds ++ (e ∷ [])) ≡ (again e || last e)
-  on_more [] e = rw (and_true (again e), and_true (last e))
+  on_more [] e = rw (and-true (again e), and-true (last e))
   on_more (d ∷ ds) e = rw (r d, l d, on_more ds e) (or-false (again e || last e))
 
   pub over_more : (ds : List ℕ) (e : Bus) → over again last (map f ds ++ (e ∷ [])) ≡ last e
-  over_more [] e = rw (and-false (again e), and_true (last e))
+  over_more [] e = rw (and-false (again e), and-true (last e))
   over_more (d ∷ ds) e = rw (r d, l d, over_more ds e) (or-false (last e))
 
   pub within_more : (ds : List ℕ) (e : Bus) → within again (map f ds ++ (e ∷ [])) ≡ again e
-  within_more [] e = and_true (again e)
+  within_more [] e = and-true (again e)
   within_more (d ∷ ds) e = rw (r d) (within_more ds e)
 
 -- Lists with one more at the end.

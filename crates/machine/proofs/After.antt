@@ -2,7 +2,7 @@
 -- for a write, on the address. This is the one place that goes through the addresses for their sake. Assumes nothing.
 use Prim.Native.Nat.{ℕ, ◌/◌, ◌%◌}
 use mathlib.Core.Path.{◌≡◌, refl, sym, subst}
-use mathlib.Core.Bool.{Bool, true, false, not, cond, ◌&&◌, ◌||◌, and_true, and-false, and-eq-true_iff}
+use mathlib.Core.Bool.{Bool, true, false, not, cond, ◌&&◌, ◌||◌, and-true, and-false, and-eq-true_iff}
 use lib.Dec.{eqb}
 use borrow.Author.Tests.{eqb-true}
 use Rattle.bay.specs.declared.Bay.{Bay}
@@ -51,7 +51,7 @@ module _ (a v : ℕ) (m : Machine) where
   stored : (t : Bool) → bay1 (cond t m (dbccr_stored v m)).bays ≡ cond (eqb (count_written m.kind v) 1 && not t) empty_bay (bay1 m.bays)
   unfolding dbccr_stored bay_in
   stored true = rw and-false
-  stored false = rw and_true
+  stored false = rw and-true
 
   -- The first kind: bay 0, which is always open, and bay 1.
   abbrev first_to : ℕ → ℕ → Bay
@@ -152,10 +152,10 @@ module _ (a v : ℕ) (m : Machine) where
   written_bay i = by_kind m.kind refl (eqb i 0) refl
     where
       by_kind : (k : Kind) → m.kind ≡ k → (z : Bool) → eqb i 0 ≡ z → bay_at (written a v m) i ≡ bay_written m i a v
-      by_kind First e true z = rw (in_first a v m e, e, z, and_true (eqb a 0x14), and_true (eqb a 0x10), and-false) (rw e at first_kind_0)
-      by_kind First e false z = rw (in_first a v m e, e, z, and_true (eqb a 0x0C && eqb (count_written First v) 1 && not m.shared.dbccr_written)) (rw e at first_kind_1)
-      by_kind Second e true z = rw (in_second a v m e, e, z, and_true (eqb a 0x10), and_true (eqb a 0x14), and-false) (rw e at second_kind_0)
-      by_kind Second e false z = rw (in_second a v m e, e, z, and_true (eqb a 0x0C && eqb (count_written Second v) 1 && not m.shared.dbccr_written)) (rw e at second_kind_1)
+      by_kind First e true z = rw (in_first a v m e, e, z, and-true (eqb a 0x14), and-true (eqb a 0x10), and-false) (rw e at first_kind_0)
+      by_kind First e false z = rw (in_first a v m e, e, z, and-true (eqb a 0x0C && eqb (count_written First v) 1 && not m.shared.dbccr_written)) (rw e at first_kind_1)
+      by_kind Second e true z = rw (in_second a v m e, e, z, and-true (eqb a 0x10), and-true (eqb a 0x14), and-false) (rw e at second_kind_0)
+      by_kind Second e false z = rw (in_second a v m e, e, z, and-true (eqb a 0x0C && eqb (count_written Second v) 1 && not m.shared.dbccr_written)) (rw e at second_kind_1)
 
   -- What holds of a bay after a write of its BCER, of its BSTR, after its closing, after its lock was opened and after any other write, holds
   -- of it after a write. Where it is its BCER or BSTR, the write doesn't close it, nor is it the other of the two.

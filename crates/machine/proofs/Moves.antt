@@ -4,7 +4,7 @@
 use Prim.Native.Nat.{ℕ, zero, suc, ◌<◌}
 use native.Mathlib.Omega.{arith}
 use mathlib.Core.Path.{◌≡◌, refl, sym, ap, ◌∙◌}
-use mathlib.Core.Bool.{Bool, true, false, not, ◌&&◌, and_true, and-eq-true_iff, true≢false}
+use mathlib.Core.Bool.{Bool, true, false, not, ◌&&◌, and-true, and-eq-true_iff, true≢false}
 use lib.Dec.{eqb}
 use borrow.Author.Tests.{eqb-true, eq-eqb, not-true}
 use Rattle.bay.specs.declared.Bay.{Bay}
@@ -45,7 +45,7 @@ pub record Moves (m : Machine) (i : ℕ) : Type 0 where
 closed_empty : (v : ℕ) (m : Machine) → closes m 1 0x0C v ≡ true → (bay_at (written 0x0C v m) 1).state ≡ 0
 unfolding empty_bay
 closed_empty v m h =
-    let both = (and-eq-true_iff (eqb (count_written m.kind v) 1) (not m.shared.dbccr_written)).0 (sym (and_true _) ∙ h) in
+    let both = (and-eq-true_iff (eqb (count_written m.kind v) 1) (not m.shared.dbccr_written)).0 (sym (and-true _) ∙ h) in
     ap (λ (b : Bay). b.state) ((closing v m (not-true _ both.1)).closed (eqb-true (count_written m.kind v) 1 both.0)).1
 
 pub moves : (m : Machine) (i : ℕ) → Moves m i

@@ -1,7 +1,7 @@
 -- REMREQ_STS after each act is what the table says, in every machine: from what becomes of the bay. Assumes nothing.
 use Prim.Native.Nat.{ℕ}
 use mathlib.Core.Path.{◌≡◌, refl, sym, ap, subst, ◌∙◌}
-use mathlib.Core.Bool.{not, ◌&&◌, ◌||◌, and_true, and-false, or-true, or-false, and-not_self}
+use mathlib.Core.Bool.{not, ◌&&◌, ◌||◌, and-true, and-false, or-true, or-false, and-not_self}
 use borrow.Author.Tests.{eq-eqb}
 use Rattle.bay.specs.declared.Bay.{Bay}
 use Rattle.bay.specs.Record.{empty_bay, reset_bay}
@@ -26,11 +26,11 @@ write_remreq : (a v : ℕ) (m : Machine) (i : ℕ) → remreq (written a v m) i 
 unfolding bstr_written empty_bay
 write_remreq a v m i =
     of_write a v m (λ (b : Bay). b.remreq_sts ≡ (remreq m i && not (clears m i a v))) i
-    (λ e o. (bcer_stores (hides m) v (setting_of m) (bay_at m i)).flags_kept.0 ∙ rw (e, (three m.kind i).bcer_bstr, (three m.kind i).bcer_dbccr) (sym (and_true (remreq m i))))
+    (λ e o. (bcer_stores (hides m) v (setting_of m) (bay_at m i)).flags_kept.0 ∙ rw (e, (three m.kind i).bcer_bstr, (three m.kind i).bcer_dbccr) (sym (and-true (remreq m i))))
     (λ e o. rw (e, eq-eqb (bstr_own m i) (bstr_own m i) refl, o, (three m.kind i).bstr_dbccr, or-false))
     (λ k l c. rw (c, or-true) (sym (and-false (remreq m i))))
-    (λ k l c u. (bay_unlocks (bay_at m i)).flags_kept.0 ∙ rw (l, c) (sym (and_true (remreq m i))))
-    (λ k l c u. rw (l, c) (sym (and_true (remreq m i))))
+    (λ k l c u. (bay_unlocks (bay_at m i)).flags_kept.0 ∙ rw (l, c) (sym (and-true (remreq m i))))
+    (λ k l c u. rw (l, c) (sym (and-true (remreq m i))))
 
 -- A closed bay is passed by, so that its button is as it was.
 tick_remreq : (m : Machine) (i : ℕ) → remreq (does Tick m) i ≡ (remreq m i || press_over (hides m) (bay_at m i) (bay_at (does Tick m) i))

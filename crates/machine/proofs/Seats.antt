@@ -3,7 +3,7 @@
 use Prim.Native.Nat.{ℕ, suc, ◌-◌, ◌/◌, ◌%◌, ◌<◌}
 use native.Mathlib.Omega.{arith}
 use mathlib.Core.Path.{◌≡◌, refl, sym, ap, ◌∙◌}
-use mathlib.Core.Bool.{Bool, true, false, not, ◌&&◌, and-eq-true_iff, and_true, and-false, or-true, true≢false, ◌||◌}
+use mathlib.Core.Bool.{Bool, true, false, not, ◌&&◌, and-eq-true_iff, and-true, and-false, or-true, true≢false, ◌||◌}
 use mathlib.Core.List.{List, [], ◌∷◌}
 use lib.Dec.{eqb}
 use borrow.Author.Tests.{eq-eqb, not-true, not-false}
@@ -79,7 +79,7 @@ act_whole (Write a v) m i o e =
     pick P (eqb a (bcer_own m i) && is_open m i)
     (λ h.
     let own = ((and-eq-true_iff (eqb a (bcer_own m i)) (is_open m i)).0 h).0 in
-    let neither-of-both = rw (own, and_true (not (hides m))) at (neither (not (hides m) && eqb a (bcer_own m i) && clears_or_asks m i v) (closes m i a v) e).0 in
+    let neither-of-both = rw (own, and-true (not (hides m))) at (neither (not (hides m) && eqb a (bcer_own m i) && clears_or_asks m i v) (closes m i a v) e).0 in
     rw (asks_by (hides m) v (bay_at m i), neither-of-both))
     (λ _. pick P (eqb a (bstr_own m i) && is_open m i) (λ _. refl) (λ _. pick P (unlocks m a) (λ _. refl) (λ _. refl)))
   where
@@ -196,7 +196,7 @@ module _ (m : Machine) (sound : Sound m) (i : ℕ) (runs : 0 < wait_of m i) (act
 
       asks_so : asks (control_of v) ≡ not (asks_nothing (hides now) v (bay_at now i))
       asks_so =
-          sym (and_true (asks (control_of v))) ∙ ap (λ d. asks (control_of v) && d) (sym (device ∙ ap not not_hidden)) ∙ asks_by (hides m) v by_then
+          sym (and-true (asks (control_of v))) ∙ ap (λ d. asks (control_of v) && d) (sym (device ∙ ap not not_hidden)) ∙ asks_by (hides m) v by_then
           ∙ rw (kept_kind, same)
 
       written : (not (bit 2 v) || asks (control_of v) && present (hides m) by_then) ≡ true → Broken (hides m) (bcer (control_of v) (setting_of now)) (bay_at now i) (bay_at (does (Write (bcer_own now i) v) now) i)
