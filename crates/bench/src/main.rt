@@ -15,7 +15,6 @@ mod say;
 mod second_kind;
 mod sending;
 mod transfers;
-mod wanting;
 
 ghost use Rattle.std.specs.Prelude.{◌≡◌};
 ghost use Rattle.bench.specs.Orders.{heeded};

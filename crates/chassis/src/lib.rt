@@ -10,7 +10,6 @@ mod stepping;
 use bus::Reply;
 use dock::{Controller, Standing};
 use event::Event;
-pub use looking::looked_at;
 
 // The most records that a list has.
 pub const MOST: usize = 4;
@@ -61,13 +60,6 @@ pub struct Stepped {
 
 // ---- a call in parts, for who keeps records otherwise than in a list: each is looked at, the call is judged, and what each that the event reaches
 // replies is gathered
-
-// Whether a list can be called at all, whatever the call.
-#[derive(Drop)]
-pub enum Listed {
-    Usable,
-    Refused(Refusal),
-}
 
 // What becomes of a call.
 #[derive(Drop)]

@@ -7,12 +7,10 @@ pub mod lists;
 pub mod queues;
 pub mod replay;
 pub mod version;
-pub mod wanting;
 pub mod wires;
 
 use chassis::Seen;
 use event::Event;
-use who::Asking;
 
 // What three numbers mean.
 #[derive(Drop)]
@@ -25,14 +23,6 @@ enum Meant {
 #[derive(Drop)]
 struct Looked {
     seen: Seen,
-    // Each part is an image.
-    whole: bool,
-}
-
-// What has been asked of a list of images.
-#[derive(Drop)]
-struct Asked {
-    asking: Asking,
     // Each part is an image.
     whole: bool,
 }

@@ -33,7 +33,6 @@ pub enum Verb {
     Kind,
     Chassis,
     Dock,
-    Who,
 }
 
 // The word that a line about a bay begins with: what a person does there.
@@ -82,8 +81,6 @@ pub enum Order {
     Docks(u8),
     // Choose a dock by its number, also one that isn't there.
     Choose(u8),
-    // Tell which bay wants the host.
-    Wanting,
 }
 
 // What a line means.
