@@ -1,10 +1,10 @@
 // The nine outputs (document 01, "Replies and refusal numbers" and "Bay moves").
 ghost use Rattle.std.specs.Prelude.{◌≡◌, cond, ◌&&◌};
 ghost use Rattle.bay.specs.Outputs.{bay_outputs, interrupts};
-ghost use Rattle.machine.specs.Outputs.{outputs, wants_host};
+ghost use Rattle.machine.specs.Outputs.{outputs};
 
 use crate::Machine;
-use crate::record::{bay_in, is_open};
+use crate::record::is_open;
 use crate::setting::is_lit;
 use bay::{Bay, Setting};
 
@@ -47,13 +47,5 @@ impl Machine {
         } else {
             both
         }
-    }
-
-    // Bay 0's own interrupt condition, or else bay 1's. A closed bay has none, nor has one of a machine that isn't started.
-    pub fn wants_host(self, i: u8) -> bool
-        ensures { result ≡ wants_host self i }
-    {
-        let bays = self.bays;
-        self.started & wants(is_open(self.shared.bay_count, i), bay_in(bays, i))
     }
 }
