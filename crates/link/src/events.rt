@@ -60,8 +60,7 @@ fn numbers(event: Event) -> u32
 }
 
 // The refusal and the two numbers of a word's event, whose kind is bits 15-13 of the word.
-#[unsafe(no_mangle)]
-pub extern "C" fn dock_unpack(word: u16) -> u32
+pub fn dock_unpack(word: u16) -> u32
     ensures { result ≡ unpacked_as word }
 {
     match event::unpack(word) {
@@ -110,8 +109,7 @@ fn event_by(kind: u8, first: u16, second: u8) -> Meant
 }
 
 // The refusal and the word of three numbers; refusal 2 where they are no event's.
-#[unsafe(no_mangle)]
-pub extern "C" fn dock_pack(kind: u8, first: u16, second: u8) -> u32
+pub fn dock_pack(kind: u8, first: u16, second: u8) -> u32
     ensures { result ≡ packed_as kind first second }
 {
     let Meant::This(event) = event_by(kind, first, second) else {

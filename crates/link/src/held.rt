@@ -33,8 +33,7 @@ fn put(image: [u8; image::BYTES], state: &mut [u8])
 }
 
 // Writes the image of a fresh controller.
-#[unsafe(no_mangle)]
-pub extern "C" fn dock_begin(state: &mut [u8]) -> u32
+pub fn dock_begin(state: &mut [u8]) -> u32
     ensures value { result ≡ begun (length state.old) }
     ensures state_after { state.new ≡ begun_in state.old }
 {
@@ -74,8 +73,7 @@ fn number(bytes: &[u8]) -> u32
 }
 
 // One event. Answers its record's 32 bits.
-#[unsafe(no_mangle)]
-pub extern "C" fn dock_step(state: &mut [u8], word: u16) -> u32
+pub fn dock_step(state: &mut [u8], word: u16) -> u32
     ensures value { result ≡ number_of (record_of (answer_in state.old word)) }
     ensures state_after { state.new ≡ stepped_in state.old word }
 {
@@ -89,8 +87,7 @@ pub extern "C" fn dock_step(state: &mut [u8], word: u16) -> u32
 }
 
 // Many events, a record for each. Answers the refusal and the count.
-#[unsafe(no_mangle)]
-pub extern "C" fn dock_batch(state: &mut [u8], words: &[u16], records: &mut [u8]) -> u32
+pub fn dock_batch(state: &mut [u8], words: &[u16], records: &mut [u8]) -> u32
     ensures value { result ≡ batched_as (outcome_in state.old (length words.now) (length records.old)) }
     ensures state_after { state.new ≡ batched_in state.old words.now (length records.old) }
     ensures records_after { records.new ≡ records_in state.old words.now records.old }
@@ -106,8 +103,7 @@ fn named(naming: Naming) -> u32
 }
 
 // Names a kind, 1 the first and 2 the second, for the RESETs to come. Answers the refusal.
-#[unsafe(no_mangle)]
-pub extern "C" fn dock_name_kind(state: &mut [u8], kind: u8) -> u32
+pub fn dock_name_kind(state: &mut [u8], kind: u8) -> u32
     ensures value { result ≡ named_as (naming_in state.old kind) }
     ensures state_after { state.new ≡ named_in state.old kind }
 {
@@ -133,8 +129,7 @@ fn answered(answer: Told) -> u32
 }
 
 // One register's reading, outside the bus.
-#[unsafe(no_mangle)]
-pub extern "C" fn dock_reading(state: &[u8], address: u8) -> u32
+pub fn dock_reading(state: &[u8], address: u8) -> u32
     ensures { result ≡ told_as (reading_in state.now address) }
 {
     let loaded = load(state);
@@ -146,8 +141,7 @@ pub extern "C" fn dock_reading(state: &[u8], address: u8) -> u32
 }
 
 // The nine outputs.
-#[unsafe(no_mangle)]
-pub extern "C" fn dock_outputs(state: &[u8]) -> u32
+pub fn dock_outputs(state: &[u8]) -> u32
     ensures { result ≡ told_as (outputs_in state.now) }
 {
     let loaded = load(state);
@@ -166,8 +160,7 @@ fn told(held: HeldByte) -> u32
 }
 
 // The byte that an open read holds, with bit 8 of the value set, or that none is: 0.
-#[unsafe(no_mangle)]
-pub extern "C" fn dock_held_byte(state: &[u8]) -> u32
+pub fn dock_held_byte(state: &[u8]) -> u32
     ensures { result ≡ held_as (held_in state.now) }
 {
     let loaded = load(state);

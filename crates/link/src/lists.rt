@@ -169,8 +169,7 @@ fn number(told: Told) -> u64
 }
 
 // One event for one to four states on one bus; PINS and RESET are for the one that is named, counted from 0.
-#[unsafe(no_mangle)]
-pub extern "C" fn dock_chassis_step(states: &mut [u8], named: usize, word: u16) -> u64
+pub fn dock_chassis_step(states: &mut [u8], named: usize, word: u16) -> u64
     ensures value { result ≡ chassis_as (told_in states.old named word) }
     ensures states_after { states.new ≡ list_in states.old named word }
 {

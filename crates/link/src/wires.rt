@@ -18,12 +18,11 @@ fn put(wire: Wire, held: &mut [u8])
     ensures { held.new ≡ saved wire }
 {
     let image = save(wire);
-    bytes::copy(&image, held);
+    held.copy_from_slice(&image);
 }
 
 // Writes the image of a fresh held state: both lines high, nothing listened for.
-#[unsafe(no_mangle)]
-pub extern "C" fn dock_wire_begin(held: &mut [u8]) -> u32
+pub fn dock_wire_begin(held: &mut [u8]) -> u32
     ensures value { result ≡ begun (length held.old) }
     ensures held_after { held.new ≡ begun_in held.old }
 {
@@ -62,8 +61,7 @@ fn counted(outcome: Outcome) -> u32
 }
 
 // Samples in, event words out. Answers the refusal and the number of words written.
-#[unsafe(no_mangle)]
-pub extern "C" fn dock_wire_listen(held: &mut [u8], samples: &[u8], words: &mut [u16]) -> u32
+pub fn dock_wire_listen(held: &mut [u8], samples: &[u8], words: &mut [u16]) -> u32
     ensures value { result ≡ listened_as (outcome_in held.old samples.now (length words.old)) }
     ensures held_after { held.new ≡ listened_in held.old samples.now (length words.old) }
     ensures words_after { words.new ≡ words_in held.old samples.now words.old }
