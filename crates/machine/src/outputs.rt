@@ -28,6 +28,7 @@ fn wants(open: bool, bay: Bay) -> bool
 
 impl Machine {
     // Bit 8 to 0: bay 0's power, lock pin, green, yellow, the same for bay 1, interrupt asserted.
+    #[tactic(auto, using(crate::proofs::Choice::chosen, crate::proofs::Choice::passed), unfolding(crate::specs::Outputs::outputs, crate::specs::Outputs::nibble, crate::specs::Outputs::wants, crate::specs::Record::bay_in, crate::specs::Record::open_by))]
     pub fn outputs(self) -> u16
         ensures { result ≡ outputs self }
     {
@@ -50,6 +51,7 @@ impl Machine {
     }
 
     // Bay 0's own interrupt condition, or else bay 1's. A closed bay has none, nor has one of a machine that isn't started.
+    #[tactic(auto, unfolding(crate::specs::Outputs::wants_host, crate::specs::Outputs::wants))]
     pub fn wants_host(self, i: u8) -> bool
         ensures { result ≡ wants_host self i }
     {
