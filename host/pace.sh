@@ -83,11 +83,6 @@ count_pace() {
     row_of_counts ticks 7 96
     row_of_counts "bus events, for the first" 8 96
     row_of_counts "a realistic mix, for the first" 9 390
-    echo
-    printf '%-36s %8s %8s %6s %8s %8s %6s\n' "x86-64 instructions for each question" four C ratio one C ratio
-    row_of_counts "no bay wants the host" 10 96
-    row_of_counts "bay 0 of the last does" 11 96
-    row_of_counts "the first bay does" 12 96
 }
 
 pace() {

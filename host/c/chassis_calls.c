@@ -1,7 +1,6 @@
-/* Checks the chassis' calls from C: what they answer, and which bytes they change. The list stands between guards, and
+/* Checks the chassis' call from C: what it answers, and which bytes it changes. The list stands between guards, and
  * after each call the whole of it is compared with a copy, in which dock_step gave the event to each controller that it
- * should reach. After each the list is asked which bay wants the host, which dock_reading and dock_outputs tell of each
- * controller as well. Valid as C99 and as C++11. */
+ * should reach. Valid as C99 and as C++11. */
 #include "dock.h"
 
 #include <stdio.h>
@@ -84,59 +83,12 @@ static uint64_t step(uint64_t record, uint16_t word) {
     return dock_chassis_step(list, DOCK_STATE_BYTES * count, record, word);
 }
 
-static unsigned reading(unsigned place, unsigned address) {
-    return dock_value(dock_reading(image(list, place), DOCK_STATE_BYTES, (uint8_t)address));
-}
-
-/* From BSTR and BCER, which the second kind, whose 00h reads 60h, has at other addresses. */
-static int reads_as_wanting(unsigned place, unsigned bay) {
-    static const unsigned status[2][2] = {{0x10, 0x18}, {0x14, 0x20}}, control[2][2] = {{0x14, 0x1C}, {0x10, 0x18}};
-    unsigned second = reading(place, 0x00) == 0x60;
-    unsigned bstr = reading(place, status[second][bay]), bcer = reading(place, control[second][bay]);
-    return ((bstr & 8) != 0 && (bcer & 8) != 0) || ((bstr & 4) != 0 && (bcer & 4) != 0);
-}
-
-static uint32_t who_by_readings(void) {
-    for (unsigned place = 0; place < count; place++) {
-        for (unsigned bay = 0; bay < 2; bay++) {
-            if (reads_as_wanting(place, bay)) {
-                return DOCK_WHO_FOUND | place << 5 | bay << 4 | (2 * place + bay + 1);
-            }
-        }
-    }
-    return 2 * count;
-}
-
-static int some_interrupt(void) {
-    for (unsigned place = 0; place < count; place++) {
-        if ((dock_outputs(image(list, place), DOCK_STATE_BYTES) & DOCK_INTERRUPT) != 0) {
-            return 1;
-        }
-    }
-    return 0;
-}
-
-/* Which bay wants the host, with every byte as it came. */
-static uint32_t ask(void) {
-    uint32_t answer = dock_chassis_who(list, DOCK_STATE_BYTES * count);
-    CHECK(answer == who_by_readings());
-    CHECK(dock_who_found(answer) == some_interrupt());
-    CHECK(as_expected());
-    return answer;
-}
-
 /* Refused, with every byte as it came. */
 static void refuse(uint64_t record, uint16_t word, unsigned refusal) {
     uint64_t answer = step(record, word);
     CHECK(answer == (uint64_t)refusal << 60);
     CHECK(dock_chassis_refusal(answer) == refusal);
     CHECK(as_expected());
-    if (refusal == DOCK_UNFIT_STATE) {
-        CHECK(dock_chassis_who(list, DOCK_STATE_BYTES * count) == (uint32_t)DOCK_UNFIT_STATE << 16);
-        CHECK(as_expected());
-    } else {
-        ask();
-    }
 }
 
 /* What one should be after the word, where that reaches it, and then its outputs. */
@@ -162,7 +114,6 @@ static uint64_t take(uint64_t record, uint16_t word) {
     CHECK(answer << 15 == below << 15);
     CHECK(dock_chassis_refusal(answer) == DOCK_ACCEPTED);
     CHECK(as_expected());
-    ask();
     return answer;
 }
 
@@ -203,30 +154,12 @@ static void test_answers(void) {
     CHECK(dock_chassis_byte(~(uint64_t)0) == 0xFF && dock_chassis_outputs(~(uint64_t)0, 2) == 0x1FF);
 }
 
-static void take_apart(uint32_t answer, int found, unsigned record, unsigned bay, unsigned looked) {
-    CHECK(dock_who_found(answer) == found);
-    CHECK(dock_who_record(answer) == record && dock_who_bay(answer) == bay && dock_who_looked(answer) == looked);
-}
-
-static void test_who_answers(void) {
-    CHECK(DOCK_WHO_FOUND == 0x100);
-    take_apart(0x101, 1, 0, 0, 1);
-    take_apart(0x112, 1, 0, 1, 2);
-    take_apart(0x145, 1, 2, 0, 5);
-    take_apart(0x178, 1, 3, 1, 8);
-    take_apart(0x008, 0, 0, 0, 8);
-    take_apart((uint32_t)DOCK_CHASSIS_LENGTH << 16, 0, 0, 0, 0);
-    take_apart(0xFFFFFFFFu, 1, 3, 1, 15);
-    take_apart(0xFFFFFE80u, 0, 0, 0, 0);
-}
-
 /* A list of another length is refused, and neither read nor written: here NULL serves as well. */
 static void refuse_length(uint8_t *bytes, uint64_t length) {
     static const uint16_t words[] = {START, TICK, TICK | STRAY, PINS(0xBF), RESET(0, 0xFF)};
     for (size_t which = 0; which < COUNT(words); which++) {
         CHECK(dock_chassis_step(bytes, length, which, words[which]) == (uint64_t)DOCK_CHASSIS_LENGTH << 60);
     }
-    CHECK(dock_chassis_who(bytes, length) == (uint32_t)DOCK_CHASSIS_LENGTH << 16);
     CHECK(as_expected());
 }
 
@@ -440,115 +373,8 @@ static void test_together(void) {
     reply(TAKE, DOCK_DRIVEN, 0x25);
 }
 
-/* Each bay alone, at every place of every list, and none. */
-static void test_places(void) {
-    for (unsigned controllers = 1; controllers <= DOCK_CHASSIS_RECORDS; controllers++) {
-        make(controllers);
-        CHECK(ask() == 2 * controllers);
-        for (unsigned place = 0; place < controllers; place++) {
-            take(place, RESET(place << 2, 0xBB));
-        }
-        CHECK(ask() == 2 * controllers);
-        for (unsigned place = 0; place < controllers; place++) {
-            for (unsigned bay = 0; bay < 2; bay++) {
-                unsigned control = bay == 0 ? 0x14 : 0x1C;
-                write_register(0x90 + 2 * place, control, 0x04);
-                CHECK(ask() == (0x100 | place << 5 | bay << 4 | (2 * place + bay + 1)));
-                write_register(0x90 + 2 * place, control, 0x08);
-                CHECK(ask() == 2 * controllers);
-            }
-        }
-    }
-}
-
-/* A flag of a bay's, of REMREQ_STS, DEVSTSCHG, REMREQ_EN and DEVSTSCHG_EN. */
-static unsigned flag_at(unsigned flag) {
-    static const unsigned at[4] = {DOCK_BAY_REMREQ_STS, DOCK_BAY_DEVSTSCHG, DOCK_BAY_REMREQ_EN, DOCK_BAY_DEVSTSCHG_EN};
-    return DOCK_AT_BAY_FLAGS(flag / 4) + at[flag % 4];
-}
-
-static int flags_want(unsigned flags) { return (flags & 5) == 5 || (flags & 10) == 10; }
-
-/* Every set of these flags in both bays, with every bay count, of both kinds, started or not, also where no words lead.
- * The other bits of BCER are set, and enable nothing. Behind it stands one whose bay 0 wants the host. */
-static void test_flags(void) {
-    make(2);
-    alone(1, RESET(4, 0xBF));
-    set(1, flag_at(3), 1);
-    for (unsigned bay = 0; bay < 2; bay++) {
-        set(0, DOCK_AT_BAY_FLAGS(bay) + DOCK_BAY_LOCK_CTL, 1);
-        set(0, DOCK_AT_BAY_FLAGS(bay) + DOCK_BAY_REMEVTWAK_EN, 1);
-        set(0, DOCK_AT_BAY_FLAGS(bay) + DOCK_BAY_PWR_CTL, 1);
-    }
-    for (unsigned kind = 0; kind < 2; kind++) {
-        for (unsigned bays = 0; bays < 4; bays++) {
-            for (unsigned flags = 0; flags < 512; flags++) {
-                unsigned started = flags >> 8, open = bays == 1 ? 1 : 2;
-                set(0, DOCK_AT_STARTED, started);
-                set(0, DOCK_AT_KIND, kind);
-                set(0, DOCK_AT_BAY_COUNT, bays);
-                for (unsigned flag = 0; flag < 8; flag++) {
-                    set(0, flag_at(flag), flags >> flag & 1);
-                }
-                CHECK(ask() == (started && flags_want(flags & 15)                   ? 0x101u
-                                : started && open == 2 && flags_want(flags >> 4 & 15) ? 0x112u
-                                                                                      : 0x123u));
-            }
-        }
-    }
-}
-
-/* By words: presses and devices, each with its enable and without, a bay that is closed, and the second kind. */
-static void test_wanting(void) {
-    make(3);
-    CHECK(dock_name_kind(image(list, 2), DOCK_STATE_BYTES, DOCK_SECOND_KIND) == 0);
-    remember();
-    take(0, RESET(0, 0xBF));
-    take(2, RESET(8, 0xFB));
-    CHECK(ask() == 6);
-    write_register(0x94, 0x18, 0x04);
-    CHECK(ask() == 0x156);
-    write_register(0x90, 0x10, 0x04);
-    write_register(0x90, 0x14, 0x04);
-    CHECK(ask() == 0x156);
-    take(0, PINS(0x9F));
-    for (unsigned tick = 0; tick < 5; tick++) {
-        take(0, TICK);
-    }
-    CHECK(reading(0, 0x10) == 0x19);
-    CHECK(ask() == 0x156);
-    write_register(0x90, 0x14, 0x08);
-    CHECK(ask() == 0x101);
-    write_register(0x90, 0x10, 0x08);
-    CHECK(ask() == 0x156);
-    write_register(0x94, 0x0C, 0x01);
-    CHECK(ask() == 6);
-    take(1, RESET(4, 0xBF));
-    write_register(0x92, 0x14, 0x04);
-    CHECK(ask() == 0x123);
-}
-
-/* A host that clears what it is told of, and asks again until none is found, comes to each bay once and in order. */
-static void test_serving(void) {
-    static const uint32_t expected_answers[] = {0x101, 0x112, 0x123, 0x134, 0x145, 0x156, 0x167, 0x178};
-    unsigned served = 0;
-    uint32_t answer;
-    make(4);
-    for (unsigned place = 0; place < 4; place++) {
-        take(place, RESET(place << 2, 0xBB));
-        write_register(0x90 + 2 * place, 0x1C, 0x04);
-        write_register(0x90 + 2 * place, 0x14, 0x04);
-    }
-    for (answer = ask(); dock_who_found(answer) && served < COUNT(expected_answers); answer = ask()) {
-        CHECK(answer == expected_answers[served++]);
-        write_register(0x90 + 2 * dock_who_record(answer), dock_who_bay(answer) == 0 ? 0x10 : 0x18, 0x0C);
-    }
-    CHECK(served == COUNT(expected_answers) && answer == 8);
-}
-
 int main(void) {
     test_answers();
-    test_who_answers();
     test_lengths();
     test_numbers();
     test_unfit();
@@ -559,10 +385,6 @@ int main(void) {
     test_one();
     test_two_docks();
     test_together();
-    test_places();
-    test_flags();
-    test_wanting();
-    test_serving();
     printf("chassis calls: %lu checks, %lu failed\n", checks, failures);
     return failures != 0;
 }

@@ -1,11 +1,11 @@
 /* The library and the C controller on the same words, the wire cells of both on the same samples, the queues of both,
  * and the chassis of both, made by one compiler: `pace REPEATS` tells the nanoseconds for each event, for each sample,
- * for each word that is put and taken, for each event of a chassis and for each time that it is asked which bay wants
- * the host, on the machine itself, medians of so many runs of each, which take turns. With PACE_COUNT defined it is a
- * program without a system, `pace LIST SIDE COUNT`, that only gives the words, or the samples, to one side, for an
- * emulator to count the instructions. The lists are those of speed/src/lists.rs and speed/src/wire.rs; the lists of
- * samples come after those of words, then the words that go through a queue, which are the mix, then the lists of words
- * again, for a chassis, and at last three chassis that are asked. */
+ * for each word that is put and taken and for each call of a chassis on the machine itself, medians of so many runs of
+ * each, which take turns. With PACE_COUNT
+ * defined it is a program without a system, `pace LIST SIDE COUNT`, that only gives the words, or the samples, to one
+ * side, for an emulator to count the instructions. The lists are those of speed/src/lists.rs and speed/src/wire.rs; the
+ * lists of samples come after those of words, then the words that go through a queue, which are the mix, and then the
+ * lists of words again, for a chassis. */
 #include "chassis.h"
 #include "dock.h"
 #include "held.h"
@@ -300,7 +300,8 @@ static uint64_t answers[SIDES][WORDS];
  * driven, so that each shows in the answers. */
 static uint16_t reset_of(unsigned place) { return (uint16_t)(LOCKED_RESET + 0x400u * place); }
 
-static uint64_t library_chassis_begin(uint8_t *states, unsigned controllers) {
+static void library_chassis(unsigned controllers, const uint16_t *list, size_t count, uint64_t *into) {
+    uint8_t states[DOCK_CHASSIS_BYTES];
     uint64_t length = controllers * (uint64_t)DOCK_STATE_BYTES;
     for (unsigned i = 0; i < controllers; i++) {
         dock_begin(states + i * DOCK_STATE_BYTES, DOCK_STATE_BYTES);
@@ -308,26 +309,16 @@ static uint64_t library_chassis_begin(uint8_t *states, unsigned controllers) {
     for (unsigned i = 0; i < controllers; i++) {
         dock_chassis_step(states, length, i, reset_of(i));
     }
-    return length;
-}
-
-static void c_chassis_begin(unsigned controllers) {
-    plain_chassis_begin(controllers);
-    for (unsigned i = 0; i < controllers; i++) {
-        plain_chassis_step(i, reset_of(i));
-    }
-}
-
-static void library_chassis(unsigned controllers, const uint16_t *list, size_t count, uint64_t *into) {
-    uint8_t states[DOCK_CHASSIS_BYTES];
-    uint64_t length = library_chassis_begin(states, controllers);
     for (size_t i = 0; i < count; i++) {
         into[i] = dock_chassis_step(states, length, 0, list[i]);
     }
 }
 
 static void plain_chassis(unsigned controllers, const uint16_t *list, size_t count, uint64_t *into) {
-    c_chassis_begin(controllers);
+    plain_chassis_begin(controllers);
+    for (unsigned i = 0; i < controllers; i++) {
+        plain_chassis_step(i, reset_of(i));
+    }
     for (size_t i = 0; i < count; i++) {
         into[i] = plain_chassis_step(0, list[i]);
     }
@@ -340,56 +331,6 @@ static void plain_one(const uint16_t *list, size_t count, uint64_t *into) { plai
 
 typedef void chassis_t(const uint16_t *list, size_t count, uint64_t *into);
 static chassis_t *const chassis[SIDES] = {library_four, plain_four, library_one, plain_one};
-
-/* ---- which bay wants the host ---- */
-
-enum { WANTS = 3, NONE_WANTS = 0, LAST_WANTS = 1, ENABLING = 5 };
-
-static uint32_t found[SIDES][WORDS];
-static const uint16_t BCER_0 = 0x14, DEVSTSCHG_EN = 0x04;
-
-/* DEVSTSCHG_EN of the bay 0 that comes to want the host, which has a device: of the last controller or of the first. */
-static void make_want(int want, unsigned controllers, uint16_t *enabling) {
-    unsigned place = want == LAST_WANTS ? controllers - 1 : 0;
-    enabling[0] = START;
-    enabling[1] = (uint16_t)(BYTE + OWN_WRITE + 2 * place);
-    enabling[2] = (uint16_t)(BYTE + BCER_0);
-    enabling[3] = (uint16_t)(BYTE + (want == NONE_WANTS ? 0 : DEVSTSCHG_EN));
-    enabling[4] = STOP;
-}
-
-static void library_who(unsigned controllers, int want, size_t count, uint32_t *into) {
-    uint8_t states[DOCK_CHASSIS_BYTES];
-    uint16_t enabling[ENABLING];
-    uint64_t length = library_chassis_begin(states, controllers);
-    make_want(want, controllers, enabling);
-    for (size_t i = 0; i < ENABLING; i++) {
-        dock_chassis_step(states, length, 0, enabling[i]);
-    }
-    for (size_t i = 0; i < count; i++) {
-        into[i] = dock_chassis_who(states, length);
-    }
-}
-
-static void plain_who(unsigned controllers, int want, size_t count, uint32_t *into) {
-    uint16_t enabling[ENABLING];
-    c_chassis_begin(controllers);
-    make_want(want, controllers, enabling);
-    for (size_t i = 0; i < ENABLING; i++) {
-        plain_chassis_step(0, enabling[i]);
-    }
-    for (size_t i = 0; i < count; i++) {
-        into[i] = plain_chassis_who();
-    }
-}
-
-static void library_who_four(int want, size_t count, uint32_t *into) { library_who(4, want, count, into); }
-static void plain_who_four(int want, size_t count, uint32_t *into) { plain_who(4, want, count, into); }
-static void library_who_one(int want, size_t count, uint32_t *into) { library_who(1, want, count, into); }
-static void plain_who_one(int want, size_t count, uint32_t *into) { plain_who(1, want, count, into); }
-
-typedef void who_t(int want, size_t count, uint32_t *into);
-static who_t *const whos[SIDES] = {library_who_four, plain_who_four, library_who_one, plain_who_one};
 
 #ifdef PACE_COUNT
 
@@ -412,10 +353,8 @@ __attribute__((used, noreturn)) static void begin(char **stack) {
         listens[side](samples[list - LISTS], count, heard[0]);
     } else if (list == LISTS + SAMPLE_LISTS) {
         queues[side](words[LISTS - 1], count, taken[0]);
-    } else if (list <= LISTS + SAMPLE_LISTS + LISTS) {
-        chassis[side](words[list - LISTS - SAMPLE_LISTS - 1], count, answers[0]);
     } else {
-        whos[side]((int)(list - LISTS - SAMPLE_LISTS - LISTS - 1), count, found[0]);
+        chassis[side](words[list - LISTS - SAMPLE_LISTS - 1], count, answers[0]);
     }
     __asm__ volatile("syscall" : : "a"(60), "D"(0));
     __builtin_unreachable();
@@ -493,22 +432,10 @@ static void time_chassis(const uint16_t *list, size_t repeats) {
     }
 }
 
-static void time_who(int want, size_t repeats) {
-    for (size_t run = 0; run < repeats; run++) {
-        for (int side = 0; side < SIDES; side++) {
-            memset(found[side], 0, sizeof found[side]);
-            double from = now();
-            whos[side](want, WORDS, found[side]);
-            times[side][run] = (now() - from) / WORDS;
-        }
-    }
-}
-
 /* A chassis of four and one of one answer otherwise: each library's with the one in C. */
 static int chassis_agree(void) {
     return memcmp(answers[0], answers[1], sizeof answers[0]) == 0 &&
-           memcmp(answers[2], answers[3], sizeof answers[2]) == 0 && memcmp(found[0], found[1], sizeof found[0]) == 0 &&
-           memcmp(found[2], found[3], sizeof found[2]) == 0;
+           memcmp(answers[2], answers[3], sizeof answers[2]) == 0;
 }
 
 static int all_agree(void) {
@@ -540,7 +467,6 @@ static int tell(const char *name, size_t repeats) {
 int main(int count, char **arguments) {
     static const char *const names[LISTS] = {"ticks", "bus events (whole writes and reads)", "a realistic mix"};
     static const char *const sample_names[SAMPLE_LISTS] = {"idle lines", "a clock held low", "a bus at 100 kHz"};
-    static const char *const want_names[WANTS] = {"no bay wants the host", "bay 0 of the last does", "the first bay does"};
     long repeats = count == 2 ? strtol(arguments[1], NULL, 10) : 0;
     if (repeats < 1 || repeats > 1000000) {
         fprintf(stderr, "usage: pace REPEATS\n");
@@ -579,14 +505,6 @@ int main(int count, char **arguments) {
     for (int list = 0; list < LISTS; list++) {
         time_chassis(words[list], (size_t)repeats);
         if (!tell(names[list], (size_t)repeats)) {
-            return 1;
-        }
-    }
-    printf("\n%-36s %8s %8s %6s %8s %8s %6s\n", "ns for each time a chassis is asked", "four", "C", "ratio", "one", "C",
-           "ratio");
-    for (int want = 0; want < WANTS; want++) {
-        time_who(want, (size_t)repeats);
-        if (!tell(want_names[want], (size_t)repeats)) {
             return 1;
         }
     }

@@ -61,7 +61,6 @@ static void chassis_steps(void) {
     for (size_t i = 0; i < WORDS; i++)
         answer = (uint32_t)dock_chassis_step(states, sizeof states, 0, words[i]);
 }
-static void chassis_who(void) { answer = dock_chassis_who(states, sizeof states); }
 static void pack(void) { answer = dock_pack(DOCK_TICK, 0, 0); }
 static void unpack(void) { answer = dock_unpack(TICK); }
 
@@ -127,7 +126,6 @@ int main(void) {
     report("dock_name_kind", name_kind);
     start_chassis();
     report("dock_chassis_step", chassis_steps);
-    report("dock_chassis_who", chassis_who);
     dock_wire_begin(held, sizeof held);
     fill_samples();
     report("dock_wire_begin", wire_begin);

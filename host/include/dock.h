@@ -1,4 +1,4 @@
-/* The proved controller of a two-bay cartridge dock, version 5.4, for C99 or C++11 and newer.
+/* The proved controller of a two-bay cartridge dock, version 5.3, for C99 or C++11 and newer.
  *
  * A program holds the controller's state as DOCK_STATE_BYTES bytes and gives it one event at a time:
  *
@@ -44,8 +44,6 @@ extern "C" {
  * rises where a program that was built on an older header would misread or misuse a call, the second where it would
  * not.
  *
- * Since 5.4 dock_chassis_who tells which bay of a chassis wants the host. No other call has changed.
- *
  * Since 5.3 dock_chassis_step gives an event to one to four controllers on one bus, and gives refusals 9, 10 and 11. No
  * other call has changed.
  *
@@ -82,7 +80,7 @@ extern "C" {
  *
  * Before version 2, dock_reading and dock_outputs took words where they take a state now, and dock_unpack had a layout
  * of its own. A program that was built on such a header must be built again. */
-#define DOCK_VERSION 0x0504u
+#define DOCK_VERSION 0x0503u
 
 /* Bits of words and answers, numbers of events, replies and refusals that this header does not name are 0 or not given
  * in this version. A later one may use them, and then has a higher first number. A program that begins by asking
@@ -131,7 +129,7 @@ enum dock_kind_number {
  * | 5 | over 16,384 words | | | call | | | call | | |
  * | 6 | RESET with straps above 15 | | | | | | | call | |
  * | 7, 8 | by the queue's calls alone | | | | | | | | |
- * | 9-11 | by the chassis' calls alone | | | | | | | | |
+ * | 9-11 | by the chassis' call alone | | | | | | | | |
  * | 14 | the number is that of no kind of controller | | | | | call | | | |
  * | 12, 13, 15 | never in this version | | | | | | | | |
  *
@@ -360,7 +358,7 @@ uint32_t dock_queue_take(uint8_t *queue, uint64_t queue_len);
  *     dock_begin(other, DOCK_STATE_BYTES);
  *     dock_name_kind(other, DOCK_STATE_BYTES, DOCK_SECOND_KIND);
  *     dock_chassis_step(states, sizeof states, 0, 0xC2FF);  // a RESET of controller 0, at 90h
- *     dock_chassis_step(states, sizeof states, 1, 0xC4BF);  // .. of controller 1, at 92h, with a device in bay 0
+ *     dock_chassis_step(states, sizeof states, 1, 0xC4FF);  // .. of controller 1, at 92h
  *     dock_chassis_step(states, sizeof states, 0, 0x0000);  // a START, for both
  *     uint64_t answer = dock_chassis_step(states, sizeof states, 0, 0x4092);
  *     uint32_t reply = dock_chassis_reply(answer);          // DOCK_ACK, by controller 1
@@ -374,28 +372,16 @@ uint32_t dock_queue_take(uint8_t *queue, uint64_t queue_len);
  * the one that drives, else DOCK_NOT_DRIVEN and 255. No two drive: at most one of a list that is accepted holds a byte
  * by dock_held_byte, and SDAT is driven from that one before the TAKE is known.
  *
- * The controllers of a chassis have one interrupt line in common. Which bay asserts it, dock_chassis_who tells the host,
- * so that it need not read the registers of all; it is asked again until none is found. Here the write to controller 1
- * goes on, and its bay 0 comes to want the host:
- *
- *     dock_chassis_step(states, sizeof states, 0, 0x4010);  // BCER of its bay 0
- *     dock_chassis_step(states, sizeof states, 0, 0x4004);  // DEVSTSCHG_EN
- *     uint32_t who = dock_chassis_who(states, sizeof states);
- *     while (dock_who_found(who)) {
- *         serve(dock_who_record(who), dock_who_bay(who));   // reads that bay's BSTR alone, and clears what it shows
- *         who = dock_chassis_who(states, sizeof states);    // a bay is found until that is done
- *     }
- *
  * The refusals:
  *
- * | no. | of dock_chassis_step | of dock_chassis_who |
- * |---|---|---|
- * | 9 | the list has another length; it is not read, and may be NULL | the same |
- * | 1 | one is no image of a fit state; or two that have had a RESET have one own address, or both have a read open | the same |
- * | 2 | a bit of the word is set that must be 0 | |
- * | 10 | PINS or RESET for one that is not in the list | |
- * | 3 | PINS for one that has had no RESET yet; any other word but RESET where none has had one | |
- * | 11 | RESET to the own address of another that has had a RESET | |
+ * | no. | of dock_chassis_step |
+ * |---|---|
+ * | 9 | the list has another length; it is not read, and may be NULL |
+ * | 1 | one is no image of a fit state; or two that have had a RESET have one own address, or both have a read open |
+ * | 2 | a bit of the word is set that must be 0 |
+ * | 10 | PINS or RESET for one that is not in the list |
+ * | 3 | PINS for one that has had no RESET yet; any other word but RESET where none has had one |
+ * | 11 | RESET to the own address of another that has had a RESET |
  *
  * Where more than one could be given, the order is 9, 1, 2, 10, 3, 11. A RESET may give a controller the address that
  * it has. A list that was refused neither with 9 nor with 1 is not refused with 1 at the next call either, unless its
@@ -406,18 +392,6 @@ uint32_t dock_queue_take(uint8_t *queue, uint64_t queue_len);
  * 2 in 23-12, of 3 in 11-0, and 0 for one that is not there or has had no RESET. With a refusal, with 2 as well,
  * everything below it is 0, and every byte of the list is as it came. */
 uint64_t dock_chassis_step(uint8_t *states, uint64_t states_len, uint64_t record, uint16_t word);
-
-/* Which bay wants the host: the first, in the order of the list and bay 0 before bay 1, whose own interrupt condition
- * holds, REMREQ_STS with REMREQ_EN or DEVSTSCHG with DEVSTSCHG_EN. It is the bay that would be found by reading BSTR and
- * BCER of all of them, in a controller of the second kind at that kind's own addresses, and one is found exactly where
- * dock_outputs has DOCK_INTERRUPT for one of the list. A bay that is closed and a controller that has had no RESET are
- * looked at and never found. It is a question, and changes nothing.
- *
- * Value: DOCK_WHO_FOUND exactly if a bay is found; its controller, counted from 0, in bits 6-5 and the bay in bit 4, 0
- * where none is; and in bits 3-0 how many bays were looked at: the place of the one that is found, counted from 1, or
- * all of them, which are two for each controller of the list. */
-uint32_t dock_chassis_who(const uint8_t *states, uint64_t states_len);
-#define DOCK_WHO_FOUND 0x100u
 
 /* ---- answers taken apart ---- */
 
@@ -453,13 +427,6 @@ static inline uint16_t dock_chassis_outputs(uint64_t answer, uint64_t record) {
                                                 : 0);
     return (uint16_t)(outputs & 0x1FFu);
 }
-
-/* dock_chassis_who's answer: whether a bay is found, in which controller of the list it is, which of its two bays it is,
- * and how many were looked at. With a refusal none is found and all are 0. */
-static inline int dock_who_found(uint32_t answer) { return (answer & DOCK_WHO_FOUND) != 0; }
-static inline uint32_t dock_who_record(uint32_t answer) { return answer >> 5 & 3u; }
-static inline uint32_t dock_who_bay(uint32_t answer) { return answer >> 4 & 1u; }
-static inline uint32_t dock_who_looked(uint32_t answer) { return answer & 0xFu; }
 
 /* A word's kind, and the two numbers in dock_unpack's answer. */
 static inline uint8_t dock_kind(uint16_t word) { return (uint8_t)(word >> 13); }

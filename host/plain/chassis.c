@@ -80,15 +80,3 @@ uint64_t plain_chassis_step(unsigned named, uint16_t word) {
     }
     return reply << 57 | byte << 49 | sets;
 }
-
-/* One that has had no RESET has no bay open. A status bit and its enable stand at the same place. */
-uint32_t plain_chassis_who(void) {
-    for (unsigned i = 0; i < docks_len; i++) {
-        for (unsigned bay = 0; bay < docks[i].open_bays; bay++) {
-            if (docks[i].bays[bay].sticky & docks[i].bays[bay].control) {
-                return 0x100u | i << 5 | bay << 4 | (2 * i + bay + 1);
-            }
-        }
-    }
-    return 2 * docks_len;
-}

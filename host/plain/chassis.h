@@ -1,6 +1,6 @@
 /* A chassis of one to four C controllers, which are of the first kind alone, with states that it keeps, as a firmware
- * without the library would have it. Its answers have the layout of dock_chassis_step's and dock_chassis_who's
- * (include/dock.h). It tests the call and nothing of its states, so it never refuses with 9 or 1. */
+ * without the library would have it. Its answers have the layout of dock_chassis_step's (include/dock.h). It tests the
+ * call and nothing of its states, so it never refuses with 9 or 1. */
 #ifndef PLAIN_CHASSIS_H
 #define PLAIN_CHASSIS_H
 
@@ -10,6 +10,5 @@
 
 void plain_chassis_begin(unsigned controllers); /* so many, none of which has had a RESET */
 uint64_t plain_chassis_step(unsigned named, uint16_t word);
-uint32_t plain_chassis_who(void);
 
 #endif

@@ -123,7 +123,7 @@ check_programs() {
     same "$1: the calls, checked from C, as on x86-64" "$firmware/$1/calls.out" "$firmware/calls.out"
     same "$1: the wire cell's calls likewise" "$firmware/$1/wire-calls.out" "$firmware/wire-calls.out"
     same "$1: the queue's calls likewise" "$firmware/$1/queue-calls.out" "$firmware/queue-calls.out"
-    same "$1: the chassis' calls likewise" "$firmware/$1/chassis-calls.out" "$firmware/chassis-calls.out"
+    same "$1: the chassis' call likewise" "$firmware/$1/chassis-calls.out" "$firmware/chassis-calls.out"
 }
 
 # An interrupt that comes at any moment, as only a Cortex-M's does here: each word that it puts is taken, in order.

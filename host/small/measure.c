@@ -61,8 +61,6 @@ static void library_put(void) { answer = dock_queue_put(queue, sizeof queue, wor
 static void library_take(void) { answer = dock_queue_take(queue, sizeof queue); }
 static void library_chassis(void) { chassis_answer = dock_chassis_step(states, states_len, 0, word); }
 static void c_chassis(void) { chassis_answer = plain_chassis_step(0, word); }
-static void library_who(void) { answer = dock_chassis_who(states, states_len); }
-static void c_who(void) { answer = plain_chassis_who(); }
 static void c_begin(void) { plain_begin(); }
 static void c_step(void) { answer = plain_step(word); }
 static void c_batch(void) { plain_batch(words, words_len, records); }
@@ -347,30 +345,6 @@ static void tell_chassis(const char *what, unsigned count, uint16_t event) {
     tell(what, library, c);
 }
 
-/* DEVSTSCHG_EN is set and DEVSTSCHG with it, in bay 0 of the controller at this place; in none where it isn't there. */
-static int make_want(unsigned count, unsigned place) {
-    const uint16_t written[] = {0x0000, (uint16_t)(0x4090u + 2 * place), 0x4014, 0x4004, 0x2000};
-    int same = make_chassis(count);
-    word = (uint16_t)(0xC2BFu + 0x400u * place);
-    if (place < count) {
-        same = same && dock_chassis_step(states, states_len, place, word) == plain_chassis_step(place, word);
-    }
-    for (unsigned i = 0; i < COUNT(written); i++) {
-        uint64_t reply = dock_chassis_step(states, states_len, 0, written[i]);
-        same = same && dock_chassis_refusal(reply) == DOCK_ACCEPTED && reply == plain_chassis_step(0, written[i]);
-    }
-    return same;
-}
-
-static void tell_who(const char *what, unsigned count, unsigned place) {
-    int same = make_want(count, place);
-    struct cost library = cost_of(library_who);
-    uint32_t told = dock_chassis_who(states, states_len);
-    struct cost c = cost_of(c_who);
-    chassis_differ = chassis_differ || !same || told != plain_chassis_who() || dock_who_found(told) != (place < count);
-    tell(what, library, c);
-}
-
 int main(void) {
     calibrate();
     printf("events\n");
@@ -389,10 +363,6 @@ int main(void) {
     tell_chassis("a TICK, four", 4, 0xA000);
     tell_chassis("PINS for one of four", 4, 0x80FF);
     tell_chassis("a word refused with 2, four", 4, 0x0001);
-    tell_who("asked who, one controller, no bay", 1, 4);
-    tell_who("asked who, four, no bay", 4, 4);
-    tell_who("asked who, four, bay 0 of the last", 4, 3);
-    tell_who("asked who, four, the first bay", 4, 0);
     printf("calls\n");
     tell_both("dock_begin: a fresh image", library_begin, c_begin);
     tell_both("dock_outputs: an image loaded and tested", library_outputs, c_outputs);

@@ -10,8 +10,6 @@ queue_calls=(dock_queue_put dock_queue_take)
 plain_queue_calls=(plain_queue_put plain_queue_take)
 chassis_calls=(dock_chassis_step)
 plain_chassis_calls=(plain_chassis_step)
-who_calls=(dock_chassis_who)
-plain_who_calls=(plain_chassis_who)
 
 # link_calls MAP CALL.. -- FILE..: what these calls need, and nothing else.
 link_calls() {
@@ -46,13 +44,13 @@ bytes() {
     sections "$1" | awk '{ sum += $1 } END { print sum + 0 }'
 }
 
-# Into $firmware/PROCESSOR: all eighteen calls, those on a held state, the wire cell's, the queue's, the chassis' one by
-# one, and those in C like them.
+# Into $firmware/PROCESSOR: all seventeen calls, those on a held state, the wire cell's, the queue's, the chassis', and
+# those in C like them.
 map_sizes() {
     local folder=$firmware/$1
     flags_of "$1"
     link_calls "$folder/all.map" "${held_calls[@]}" "${wire_calls[@]}" dock_queue_begin "${queue_calls[@]}" \
-        dock_{name_kind,held_byte,replay,pack,unpack,version,chassis_step,chassis_who} -- "$folder/libdock.a"
+        dock_{name_kind,held_byte,replay,pack,unpack,version,chassis_step} -- "$folder/libdock.a"
     link_calls "$folder/held.map" "${held_calls[@]}" -- "$folder/libdock.a"
     link_calls "$folder/loop-calls.map" dock_{begin,step,outputs,pack,version} dock_queue_begin "${queue_calls[@]}" \
         -- "$folder/libdock.a"
@@ -65,8 +63,6 @@ map_sizes() {
     link_calls "$folder/chassis.map" "${chassis_calls[@]}" -- "$folder/libdock.a"
     compile_small "$folder/chassis.o" "$here/plain/chassis.c"
     link_calls "$folder/plain-chassis.map" "${plain_chassis_calls[@]}" -- "$folder/chassis.o" "$folder/memory.o"
-    link_calls "$folder/who.map" "${who_calls[@]}" -- "$folder/libdock.a"
-    link_calls "$folder/plain-who.map" "${plain_who_calls[@]}" -- "$folder/chassis.o" "$folder/memory.o"
     compile_small "$folder/held.o" "$here/plain/held.c"
     link_calls "$folder/plain.map" "${plain_calls[@]}" -- "$folder/held.o" "$folder/memory.o"
     (level=(-Os) && compile_small "$folder/held-small.o" "$here/plain/held.c")
@@ -83,7 +79,7 @@ ratio() { awk -v one="$1" -v other="$2" 'BEGIN { printf "%.1f", one / other }'; 
 # measured PROCESSOR WHAT COLUMN
 measured() { awk -F'|' -v what="$2" -v column="$3" '$1 == what { print $column }' "$firmware/$1/measured"; }
 
-# The deepest stack of any call but the chassis' two, of the library (column 4) or the C controller (5).
+# The deepest stack of any call but the chassis', of the library (column 4) or the C controller (5).
 deepest() {
     awk -F'|' -v column="$2" '
         NF == 1 { several = $1 == "chassis" }
@@ -112,9 +108,6 @@ queue_bytes_ratio() { ratio "$(queue_bytes "$1")" "$(plain_queue_bytes "$1")"; }
 chassis_bytes() { bytes "$firmware/$1/chassis.map"; }
 plain_chassis_bytes() { bytes "$firmware/$1/plain-chassis.map"; }
 chassis_bytes_ratio() { ratio "$(chassis_bytes "$1")" "$(plain_chassis_bytes "$1")"; }
-who_bytes() { bytes "$firmware/$1/who.map"; }
-plain_who_bytes() { bytes "$firmware/$1/plain-who.map"; }
-who_bytes_ratio() { ratio "$(who_bytes "$1")" "$(plain_who_bytes "$1")"; }
 loop_bytes() { bytes "$firmware/$1/loop-calls.map"; }
 plain_bytes() { bytes "$firmware/$1/plain.map"; }
 plain_small_bytes() { bytes "$firmware/$1/plain-small.map"; }
@@ -146,10 +139,7 @@ tell_sizes() {
     row "library's chassis: chassis_step" chassis_bytes
     row "chassis in C, with the same flags" plain_chassis_bytes
     row "**library's chassis / in C**" chassis_bytes_ratio
-    row "library's question to a chassis: chassis_who" who_bytes
-    row "the question in C, with the same flags" plain_who_bytes
-    row "**library's question / in C**" who_bytes_ratio
-    row "library: all eighteen calls" all_bytes
+    row "library: all seventeen calls" all_bytes
     row "library: the eight that the main loop calls" loop_bytes
 }
 
@@ -206,7 +196,7 @@ $(tell_measured "$1" samples "instructions of a sample, by one call" "cell in C"
 
 $(tell_measured "$1" words "instructions of the queue" "queue in C")
 
-$(tell_measured "$1" chassis "instructions of the chassis' calls" "chassis in C")
+$(tell_measured "$1" chassis "instructions of the chassis' call" "chassis in C")
 
 $(tell_measured "$1" calls "instructions of the other calls")
 
@@ -265,7 +255,7 @@ bytes. All are compiled by the toolchain's clang at \`${level[*]}\`. How each nu
 
 $(tell_sizes)
 
-A firmware that links with \`--gc-sections\` takes only what it calls. All eighteen calls, one by one:
+A firmware that links with \`--gc-sections\` takes only what it calls. All seventeen calls, one by one:
 
 $(tell_functions)
 
@@ -275,9 +265,9 @@ $(tell_memory)
 
 The library keeps nothing but the state, one for each controller of a chassis, and 7 bytes for a wire cell and 261 for a
 queue where a firmware has one; the stack is free again after each call. The deepest stack is that of the deepest byte
-written, by any call on one controller; the chassis' calls have rows of their own below. A frame may reserve bytes below it
+written, by any call on one controller; the chassis' call has rows of its own below. A frame may reserve bytes below it
 that nothing was written to, and what an interrupt takes comes below the frame; so room for a call is the sum of the
-frames under it: its own, and for step, batch, replay and the chassis' step that of \`link::held::run\`, besides which
+frames under it: its own, and for step, batch, replay and the chassis' call that of \`link::held::run\`, besides which
 only one that clears bytes is called.
 
 $(tell_frames)

@@ -10,7 +10,7 @@ use mathlib.Core.List.{[], ◌∷◌}
 use lib.ListN.{get_or}
 use lib.Dec.{eqb, ltb, leb}
 use borrow.Author.Tests.{eq-eqb, ne_eqb, eqb-true, eqb-false, lt-ltb, ltb-true, not-true}
-use Rattle.bay.specs.Record.{N1394, NUSB, NREMREQ, EMPTY, INSERTED, ENABLED, contact, runs, hidden, present, level, accepted_level, count, empty_bay, reset_bay, bay_fit, with_status}
+use Rattle.bay.specs.Record.{N1394, NUSB, NREMREQ, EMPTY, INSERTED, ENABLED, contact, runs, hidden, present, level, accepted_level, empty_bay, reset_bay, bay_fit, with_status}
 use Rattle.bay.specs.Debounce.{debounce, sampled_bay}
 use Rattle.bay.specs.Moves.{input, contact_after, heeded, in_use, begun, wait_after, inserts, state_after, moved_to, moved_bay, ticked_bay}
 use Rattle.bay.specs.Registers.{bstr_written, asks, finds, state_written, wait_written, controlled_bay, unlocked_bay}

@@ -18,6 +18,7 @@ pub(crate) fn ticks_for(input: usize) -> u8
 }
 
 // A TICK: a count whose level differs rises by one; at `length` the level is accepted and the count is 0.
+#[tactic(auto, unfolding(crate::specs::Debounce::debounce))]
 pub(crate) fn debounced(length: u8, level: bool, accepted: bool, count: u8) -> Input
     requires { 0 < length }
     ensures { result ≡ debounce length level accepted count }
@@ -44,6 +45,7 @@ pub(crate) fn debounced(length: u8, level: bool, accepted: bool, count: u8) -> I
 }
 
 // A sample: the count is 0 where the level is the accepted one.
+#[tactic(auto, unfolding(crate::specs::Debounce::restart))]
 fn restarted(level: bool, accepted: bool, count: u8) -> u8
     ensures { result ≡ restart level accepted count }
 {
@@ -52,6 +54,7 @@ fn restarted(level: bool, accepted: bool, count: u8) -> u8
 
 impl Bay {
     // PINS, with the bay's four levels, nSL lowest.
+    #[tactic(auto, unfolding(crate::specs::Debounce::sampled_bay))]
     pub fn sampled(self, levels: u8) -> Bay
         ensures { result ≡ sampled_bay levels self }
     {

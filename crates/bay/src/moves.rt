@@ -31,6 +31,7 @@ pub(crate) fn at_once(hides: bool, ticks: u16) -> bool
 
 impl Bay {
     // A contact is closed, by the accepted levels.
+    #[tactic(auto, unfolding(crate::specs::Record::contact))]
     fn contact(self) -> bool
         ensures { result ≡ record_contact self }
     {
@@ -39,6 +40,7 @@ impl Bay {
     }
 
     // A device is in the bay, and not hidden.
+    #[tactic(auto, unfolding(crate::specs::Record::present))]
     pub fn present(self, hides: bool) -> bool
         ensures { result ≡ record_present hides self }
     {
@@ -46,6 +48,7 @@ impl Bay {
     }
 
     // A press can ask for the device in these states.
+    #[tactic(auto, unfolding(crate::specs::Moves::in_use))]
     pub(crate) fn in_use(self) -> bool
         ensures { result ≡ in_use self }
     {
@@ -66,6 +69,7 @@ impl Bay {
     }
 
     // The wait after a TICK with this contact.
+    #[tactic(auto, unfolding(crate::specs::Moves::wait_after))]
     fn wait_after(self, hides: bool, ticks: u16, now: bool) -> u16
         ensures { result ≡ wait_after hides ticks self now }
     {
@@ -81,6 +85,7 @@ impl Bay {
     }
 
     // A TICK in which no device leaves makes the bay Inserted.
+    #[tactic(auto, unfolding(crate::specs::Moves::inserts))]
     fn inserts(self, hides: bool, ticks: u16, arrives: bool) -> bool
         ensures { result ≡ inserts hides ticks self arrives }
     {
@@ -92,6 +97,7 @@ impl Bay {
     }
 
     // The one move of such a TICK.
+    #[tactic(auto, unfolding(crate::specs::Moves::state_after))]
     fn state_after(self, hides: bool, ticks: u16, arrives: bool, heeded: bool) -> u8
         ensures { result ≡ state_after hides ticks self false arrives heeded }
     {
@@ -105,6 +111,7 @@ impl Bay {
     }
 
     // A presence bit shows another contact after a TICK with this wait and these inputs.
+    #[tactic(auto, unfolding(crate::specs::Moves::changes))]
     fn changes(self, hides: bool, wait: u16, inputs: Inputs) -> bool
         ensures { result ≡ changes hides self wait inputs.n1394 inputs.nusb }
     {
@@ -145,6 +152,7 @@ impl Bay {
     }
 
     // A device leaves in a TICK with this wait and these inputs, whatever ticks there are to wait. The pulse has fallen already.
+    #[tactic(auto, using(crate::proofs::Ticks::left))]
     fn left(self, hides: bool, pulse: u16, wait: u16, change: bool, inputs: Inputs) -> Bay
         requires pulse_value { pulse ≡ self.pulse - 1 }
         requires change_value { change ≡ changes hides self wait inputs.n1394 inputs.nusb }
@@ -171,6 +179,7 @@ impl Bay {
     }
 
     // What a TICK makes of the bay, with its inputs. A press is heeded only over a device, so not as one leaves.
+    #[tactic(auto, using(crate::proofs::Ticks::left, crate::proofs::Ticks::stayed), unfolding(crate::specs::Moves::moved_bay))]
     pub fn moved(self, hides: bool, ticks: u16, inputs: Inputs) -> Bay
         ensures { result ≡ moved_bay hides ticks self inputs.n1394 inputs.nusb inputs.nremreq }
     {
@@ -205,6 +214,7 @@ impl Bay {
     }
 
     // A TICK finds nothing to do, and leaves the bay as it is: every level is the accepted one, no device seats and no pulse runs.
+    #[tactic(auto, using(crate::proofs::Ticks::at_rest), unfolding(crate::specs::Moves::rests))]
     pub fn rests(self) -> bool
         ensures value { result ≡ rests self }
         ensures self_value { result ≡ true → (hides : Bool) (s : Setting) → ticked_bay hides s self ≡ self }
@@ -238,6 +248,7 @@ fn fallen(ticks: u16) -> u16
 }
 
 // A wait begins with so many ticks; with 0 none begins.
+#[tactic(auto, unfolding(crate::specs::Moves::begun))]
 pub(crate) fn begun(ticks: u16, wait: u16) -> u16
     ensures { result ≡ begun ticks wait }
 {

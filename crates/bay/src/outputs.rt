@@ -15,6 +15,7 @@ impl Bay {
     }
 
     // Power, lock pin, green and yellow, bit 3 to 0. `lit` is the half of the phase in which a flashing lamp is on.
+    #[tactic(auto, unfolding(crate::specs::Outputs::bay_outputs, crate::specs::Outputs::lock_pin, crate::specs::Outputs::green, crate::specs::Outputs::yellow))]
     pub fn outputs(self, hides: bool, setting: Setting, lit: bool) -> u8
         ensures { result ≡ bay_outputs hides setting lit self }
     {
@@ -28,6 +29,7 @@ impl Bay {
     }
 
     // The bay asks for the host.
+    #[tactic(auto, unfolding(crate::specs::Outputs::interrupts))]
     pub fn interrupt(self) -> bool
         ensures { result ≡ interrupts self }
     {

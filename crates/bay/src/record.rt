@@ -24,6 +24,7 @@ impl Control {
 
 impl Bay {
     // Levels 1, the rest 0.
+    #[tactic(auto, unfolding(crate::specs::Record::empty_bay))]
     pub fn empty() -> Bay
         ensures { result ≡ empty_bay }
     {
@@ -42,6 +43,7 @@ impl Bay {
     }
 
     // RESET, with the bay's four levels, nSL lowest, and what LOCK_CTL starts as.
+    #[tactic(auto, unfolding(crate::specs::Record::reset_bay))]
     pub fn reset(levels: u8, lock_ctl: bool) -> Bay
         ensures { result ≡ reset_bay levels lock_ctl }
     {
@@ -63,6 +65,7 @@ impl Bay {
     }
 
     // Whether each number of the record is one that the rules can make, with pulses and waits up to these.
+    #[tactic(auto, unfolding(crate::specs::Record::bay_fit))]
     pub fn fit(self, most_pulse: u16, most_wait: u16) -> bool
         ensures { result ≡ bay_fit most_pulse most_wait self }
     {

@@ -8,6 +8,7 @@ use bits::{has, put};
 
 impl Bay {
     // BSTR as it reads. `secured` is whether the security lock shows.
+    #[tactic(auto, unfolding(crate::specs::Registers::bstr_of))]
     pub fn bstr(self, hides: bool, secured: bool) -> u8
         ensures { result ≡ bstr_of hides secured self }
     {
@@ -21,6 +22,7 @@ impl Bay {
     }
 
     // BCER as it reads.
+    #[tactic(auto, unfolding(crate::specs::Registers::bcer_of))]
     pub fn bcer(self) -> u8
         ensures { result ≡ bcer_of self }
     {
@@ -33,6 +35,7 @@ impl Bay {
     }
 
     // A write to BSTR: 1 clears REMREQ_STS or DEVSTSCHG.
+    #[tactic(auto, unfolding(crate::specs::Registers::bstr_written))]
     pub fn with_bstr(self, value: u8) -> Bay
         ensures { result ≡ bstr_written value self }
     {
@@ -55,6 +58,7 @@ impl Bay {
     }
 
     // The lock opens, as SFR is first written: power goes with it, and there is no pulse.
+    #[tactic(auto, unfolding(crate::specs::Registers::unlocked_bay))]
     pub fn unlocked(self) -> Bay
         ensures { result ≡ unlocked_bay self }
     {
@@ -76,6 +80,7 @@ impl Bay {
     }
 
     // The write brings DEVSTSCHG_EN from 0 to 1 in Empty, with a device.
+    #[tactic(auto, unfolding(crate::specs::Registers::finds))]
     fn finds(self, c: Control, present: bool) -> bool
         ensures { result ≡ finds c present self }
     {
@@ -83,6 +88,7 @@ impl Bay {
     }
 
     // The state after a write: the first move that applies.
+    #[tactic(auto, unfolding(crate::specs::Registers::state_written))]
     fn state_written(self, hides: bool, c: Control, present: bool, ticks: u16) -> u8
         ensures { result ≡ state_written hides ticks c present self }
     {
@@ -100,6 +106,7 @@ impl Bay {
 
     // The wait after a write: one that hides the device goes on; else DEVSTSCHG_EN written 0 or a request over a device ends
     // it, and a device that is found begins one.
+    #[tactic(auto, unfolding(crate::specs::Registers::wait_written))]
     fn wait_written(self, hides: bool, c: Control, present: bool, ticks: u16) -> u16
         ensures { result ≡ wait_written hides ticks c present self }
     {
@@ -117,6 +124,7 @@ impl Bay {
     }
 
     // Where the lock is pulsed, LOCK_CTL from 1 to 0 starts a pulse of `ticks`.
+    #[tactic(auto, unfolding(crate::specs::Registers::pulse_written))]
     fn pulse_written(self, c: Control, pulsed: bool, ticks: u16) -> u16
         ensures { result ≡ pulse_written c pulsed ticks self }
     {
@@ -128,6 +136,7 @@ impl Bay {
     }
 
     // What a driver's write does.
+    #[tactic(auto, unfolding(crate::specs::Registers::controlled_bay))]
     pub fn controlled(self, hides: bool, c: Control, setting: Setting) -> Bay
         ensures { result ≡ controlled_bay hides c setting self }
     {
@@ -152,6 +161,7 @@ impl Bay {
 
 impl Control {
     // What a byte written to BCER asks.
+    #[tactic(auto, unfolding(crate::specs::Registers::control_of))]
     pub fn of(value: u8) -> Control
         ensures { result ≡ control_of value }
     {
@@ -175,6 +185,7 @@ impl Control {
     }
 
     // A request that is stored: 0 and 5-7 keep the old one.
+    #[tactic(auto, unfolding(crate::specs::Registers::asks))]
     fn asks(self) -> bool
         ensures { result ≡ asks self }
     {
@@ -182,6 +193,7 @@ impl Control {
     }
 
     // The stored request after a write.
+    #[tactic(auto, unfolding(crate::specs::Registers::request_written))]
     fn request_written(self, c: Control) -> u8
         ensures { result ≡ request_written c self }
     {

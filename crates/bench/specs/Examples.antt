@@ -95,7 +95,6 @@ plain =
     ∷ from 0xFF "kind 2" []
     ∷ from 0xFF "chassis 2" []
     ∷ from 0xFF "dock 1" []
-    ∷ from 0xFF "who" []
     ∷ []
 
 unfoldable pub examples : List Example

@@ -8,14 +8,12 @@ use Rattle.dock.specs.Name.{name_of}
 use Rattle.dock.specs.declared.Controller.{Controller}
 use Rattle.chassis.specs.Judge.{MOST}
 use Rattle.chassis.specs.Held.{stepped_of}
-use Rattle.who.specs.Held.{held_of}
-use Rattle.who.specs.declared.Answer.{Answer}
 use Rattle.paste.specs.Findings.{is_fit, pasted_of}
 use Rattle.paste.specs.declared.Pasted.{Pasted}
 use Rattle.script.specs.Arguments.{further_values}
 use Rattle.script.specs.Lines.{argument_of, line_of}
 use Rattle.script.specs.declared.Order.{Order}
-use Rattle.script.specs.declared.Order.TheVariants.{Event as One, Pull, Raise, Ticks, Word, Write, Read, Address, Outputs, Registers, Help, Save, Load, Name, Docks, Choose, Wanting}
+use Rattle.script.specs.declared.Order.TheVariants.{Event as One, Pull, Raise, Ticks, Word, Write, Read, Address, Outputs, Registers, Help, Save, Load, Name, Docks, Choose}
 use Rattle.script.specs.declared.Line.{Line}
 use Rattle.script.specs.declared.Line.TheVariants.{Blank, Unknown, Misused, Mishandled, Does}
 use Rattle.bench.specs.Docks.{AT_REST, record_at, with_record, levels_at, with_levels}
@@ -62,7 +60,6 @@ words_of a l Load t = []
 words_of a l (Name n) t = []
 words_of a l (Docks n) t = []
 words_of a l (Choose d) t = []
-words_of a l Wanting t = []
 
 -- So many docks on the bus, each fresh, the first chosen; what the host speaks to.
 unfoldable pub fresh_docks : ℕ → ℕ → Bench
@@ -138,11 +135,6 @@ obeyed Load t b = loaded_by (pasted_of t) b
 obeyed (Name n) t b = named_as n b
 obeyed (Docks n) t b = fresh_docks n b.address
 obeyed (Choose d) t b = record { chassis = b.chassis; dock = d; address = b.address; levels = b.levels }
-obeyed Wanting t b = b
-
--- What `who` tells: which bay of the docks on the bus wants the host.
-unfoldable pub wanting_on : Bench → Answer
-wanting_on b = held_of b.chassis
 
 -- A line that isn't understood changes nothing.
 abbrev pub does : Line → List ℕ → Bench → Bench

@@ -93,46 +93,40 @@ pub(crate) fn tell_docks(count: u8) {
 pub(crate) fn tell_answer(answer: Answer, bench: Bench, word: u16) {
     match answer {
         Answer::Done(reply) => tell_reply(reply),
-        Answer::Refused(refusal) => {
-            say(b": ");
-            tell_refusal(refusal, bench);
-            tell_unheard(refusal, bench, word);
-        }
+        Answer::Refused(refusal) => tell_refusal(refusal, bench, word),
     }
 }
 
-// By its number, and why.
-pub(crate) fn tell_refusal(refusal: Refusal, bench: Bench) {
+fn tell_refusal(refusal: Refusal, bench: Bench, word: u16) {
     let chassis = bench.chassis;
+    let several = are_several(chassis);
     match refusal {
-        Refusal::WrongLength => say(b"refused with 9, a bus has one to four docks"),
+        Refusal::WrongLength => say(b": refused with 9, a bus has one to four docks"),
         Refusal::Unfit => say_either(
-            are_several(chassis),
-            b"refused with 1, two docks have one address, or both a read open, or a state isn't fit",
-            b"refused with 1, the state isn't fit",
+            several,
+            b": refused with 1, two docks have one address, or both a read open, or a state isn't fit",
+            b": refused with 1, the state isn't fit",
         ),
-        Refusal::StrayBit => say(b"refused with 2, a bit that must be 0 is set"),
+        Refusal::StrayBit => say(b": refused with 2, a bit that must be 0 is set"),
         Refusal::Absent => {
-            say(b"refused with 10, there is no ");
+            say(b": refused with 10, there is no ");
             say_dock(bench.dock);
         }
-        Refusal::NotStarted => say(b"refused with 3, no RESET yet"),
-        Refusal::AddressTaken => say(b"refused with 11, a started neighbour has that address"),
+        Refusal::NotStarted => {
+            say(b": refused with 3, no RESET yet");
+            if several {
+                tell_unheard(bench.dock, word);
+            }
+        }
+        Refusal::AddressTaken => say(b": refused with 11, a started neighbour has that address"),
     }
 }
 
-// Of several docks it is told which have had no RESET: a PINS is for one of them, and the rest but a RESET are for all.
-fn tell_unheard(refusal: Refusal, bench: Bench, word: u16) {
-    let chassis = bench.chassis;
-    let Refusal::NotStarted = refusal else {
-        return;
-    };
-    if !are_several(chassis) {
-        return;
-    }
+// A PINS is for one dock, and the rest but a RESET are for all.
+fn tell_unheard(dock: u8, word: u16) {
     if is_pins(word) {
         say(b" for ");
-        say_dock(bench.dock);
+        say_dock(dock);
     } else {
         say(b" for any dock");
     }

@@ -41,9 +41,6 @@ fn say_use(verb: Verb) {
         Verb::Dock => say(
             b"dock 1          chooses a dock, counted from 0: the one that RESET, PINS and the lines of one dock are for\n",
         ),
-        Verb::Who => say(
-            b"who             tells which bay wants the host: the first, in the docks' order\n",
-        ),
     }
 }
 
@@ -96,7 +93,6 @@ pub(crate) fn tell_help() {
     say_help(Verb::Kind);
     say_help(Verb::Chassis);
     say_help(Verb::Dock);
-    say_help(Verb::Who);
     say_help(Verb::Help);
 }
 

@@ -17,7 +17,6 @@ mod say;
 mod second_kind;
 mod sending;
 mod transfers;
-mod wanting;
 
 ghost use Rattle.std.specs.Prelude.{◌≡◌};
 ghost use Rattle.bench.specs.Orders.{heeded};

@@ -16,7 +16,6 @@ use crate::registers::tell_registers;
 use crate::say::{say, say_count, say_if};
 use crate::sending::{send, step, tell_end, word_for};
 use crate::transfers::{read, write};
-use crate::wanting::tell_wanting;
 use chassis::{Answer, Chassis, MOST};
 use dock::Controller;
 use event::Event;
@@ -214,10 +213,6 @@ impl Bench {
                     address: self.address,
                     levels,
                 }
-            }
-            Order::Wanting => {
-                tell_wanting(self);
-                self
             }
         }
     }

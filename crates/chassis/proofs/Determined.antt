@@ -8,7 +8,6 @@ use Rattle.dock.specs.declared.Controller.{Controller}
 use Rattle.chassis.specs.declared.Answer.{Answer}
 use Rattle.chassis.specs.declared.Chassis.{Chassis}
 use Rattle.chassis.specs.declared.Errand.{Errand}
-use Rattle.chassis.specs.declared.Listed.{Listed}
 use Rattle.chassis.specs.declared.Refusal.{Refusal}
 use Rattle.chassis.specs.declared.Round.{Round}
 use Rattle.chassis.specs.declared.Seen.{Seen}
@@ -18,8 +17,6 @@ use Rattle.chassis.specs.Chassis.{Called}
 use Rattle.chassis.proofs.Chassis.step.Reads as held_reads
 use Rattle.chassis.proofs.Seen.begun.Reads as begun_reads
 use Rattle.chassis.proofs.Seen.«with».Reads as with_reads
-use Rattle.chassis.proofs.looking.looked_at.Reads as looked_at_reads
-use Rattle.chassis.proofs.Seen.listed.Reads as listed_reads
 use Rattle.chassis.proofs.Seen.errand.Reads as errand_reads
 use Rattle.chassis.proofs.Errand.places.Reads as places_reads
 use Rattle.chassis.proofs.Errand.set_out.Reads as out_reads
@@ -45,12 +42,6 @@ begun_determined r s p q = p ∙ sym q
 
 pub with_determined : (x : Seen) (c : Controller) (r s : Seen) → with_reads.Post tt (x, (c, tt)) r (x, (c, tt)) → with_reads.Post tt (x, (c, tt)) s (x, (c, tt)) → r ≡ s
 with_determined x c r s p q = p ∙ sym q
-
-pub looked_at_determined : (n r s : ℕ) → looked_at_reads.Post tt (n, tt) r (n, tt) → looked_at_reads.Post tt (n, tt) s (n, tt) → r ≡ s
-looked_at_determined n r s p q = p ∙ sym q
-
-pub listed_determined : (x : Seen) (n : ℕ) (r s : Listed) → listed_reads.Post tt (x, (n, tt)) r (x, (n, tt)) → listed_reads.Post tt (x, (n, tt)) s (x, (n, tt)) → r ≡ s
-listed_determined x n r s p q = p ∙ sym q
 
 pub errand_determined : (x : Seen) (m n w : ℕ) (r s : Errand) → errand_reads.Post tt (x, (m, (n, (w, tt)))) r (x, (m, (n, (w, tt)))) → errand_reads.Post tt (x, (m, (n, (w, tt)))) s (x, (m, (n, (w, tt)))) → r ≡ s
 errand_determined x m n w r s p q = p ∙ sym q

@@ -2,20 +2,16 @@
 -- over Bools. Assumes nothing.
 use Prim.Native.Nat.{ℕ, zero, suc, ◌<◌}
 use native.Mathlib.Omega.{arith}
-use mathlib.Core.Path.{◌≡◌, refl, sym, ◌∙◌}
+use mathlib.Core.Path.{◌≡◌, refl}
 use mathlib.Core.Bool.{Bool, false, not, ◌&&◌, ◌||◌, beq, or_assoc, or-false}
-use mathlib.Core.List.{List, [], ◌∷◌, map}
+use mathlib.Core.List.{List, [], ◌∷◌}
 use lib.Dec.{eqb}
-use lib.ListN.{length, get_or, length-map}
+use lib.ListN.{length, get_or}
 use borrow.Author.Tests.{ne_eqb}
 use Rattle.bay.proofs.Taut.{taut, same}
 use Rattle.dock.specs.declared.Standing.{Standing}
 use Rattle.chassis.specs.Judge.{some, clash, faulty, neighbours}
 use Rattle.chassis.proofs.Nobody.{no_neighbour}
-
--- What owning four of them tells, it tells of them as values.
-pub unmapped : {A B : Type 0} (f : A → B) (l : List A) (n : ℕ) → length (map f l) ≡ n → length l ≡ n
-unmapped f l n e = sym (length-map l f) ∙ e
 
 -- Asked of the four places (`o` for one that isn't there) as of the list.
 abbrev OfFour : (Standing → Standing → Standing → Standing → Bool) → (List Standing → Bool) → Type 0

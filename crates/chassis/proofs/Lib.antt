@@ -1,4 +1,3 @@
-pub mod OnList
 pub mod Nobody
 pub mod Four
 pub mod Looked
@@ -7,8 +6,6 @@ pub mod Rounds
 pub mod Loops
 pub mod Turns
 pub mod Plain
-pub mod Lending
-pub mod Folds
 pub mod Row
 pub mod ByValue
 pub mod WrittenOut

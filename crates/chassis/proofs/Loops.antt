@@ -10,27 +10,27 @@ use lib.ListN.{length, get_or, set}
 use Rattle.dock.specs.declared.Controller.{Controller}
 use Rattle.chassis.specs.declared.Errand.{Errand}
 use Rattle.chassis.specs.declared.Round.{Round}
+use Rattle.chassis.specs.declared.Seen.{Seen}
 use Rattle.chassis.specs.declared.Verdict.{Verdict}
 use Rattle.chassis.specs.declared.Verdict.TheVariants.{Sent, Refused}
-use Rattle.chassis.specs.Looking.{fold_to}
+use Rattle.chassis.specs.Looking.{seen_with, seen_to}
 use Rattle.chassis.specs.Passing.{passed_of, places_by, records_to, round_to}
 
--- ---- looking, whatever is kept of each
+-- ---- looking
 
-module _ {A : Type 0} (more : A → Controller → A) where
-  pub fold_none : (a : A) (cs : List Controller) → fold_to more a 0 cs ≡ a
-  unfolding fold_to
-  fold_none a cs = refl
+pub seen_none : (s : Seen) (cs : List Controller) → seen_to s 0 cs ≡ s
+unfolding seen_to
+seen_none s cs = refl
 
-  fold_suc : (a : A) (i : ℕ) (cs : List Controller) (d : Controller) → i < length cs → more (fold_to more a i cs) (get_or cs i d) ≡ fold_to more a (suc i) cs
-  unfolding fold_to
-  fold_suc a zero [] d l = absurd (not-suc-le-zero l)
-  fold_suc a zero (c ∷ cs) d l = refl
-  fold_suc a (suc i) [] d l = absurd (not-suc-le-zero l)
-  fold_suc a (suc i) (c ∷ cs) d l = fold_suc (more a c) i cs d (le_of_suc-le-suc l)
+seen_suc : (s : Seen) (i : ℕ) (cs : List Controller) (d : Controller) → i < length cs → seen_with (seen_to s i cs) (get_or cs i d) ≡ seen_to s (suc i) cs
+unfolding seen_to
+seen_suc s zero [] d l = absurd (not-suc-le-zero l)
+seen_suc s zero (c ∷ cs) d l = refl
+seen_suc s (suc i) [] d l = absurd (not-suc-le-zero l)
+seen_suc s (suc i) (c ∷ cs) d l = seen_suc (seen_with s c) i cs d (le_of_suc-le-suc l)
 
-  pub fold_next : (a : A) (i : ℕ) (cs : List Controller) (d : Controller) → i < length cs → more (fold_to more a i cs) (get_or cs i d) ≡ fold_to more a (i + 1) cs
-  fold_next a i cs d l = fold_suc a i cs d l ∙ ap (λ (j : ℕ). fold_to more a j cs) (sym (add-one i))
+pub seen_next : (s : Seen) (i : ℕ) (cs : List Controller) (d : Controller) → i < length cs → seen_with (seen_to s i cs) (get_or cs i d) ≡ seen_to s (i + 1) cs
+seen_next s i cs d l = seen_suc s i cs d l ∙ ap (λ (j : ℕ). seen_to s j cs) (sym (add-one i))
 
 -- ---- passing
 

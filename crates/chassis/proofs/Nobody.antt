@@ -36,7 +36,7 @@ module _ (p : Standing → Bool) (no : p nobody ≡ false) where
   neighbours_followed zero (s ∷ ss) k = some_followed ss k
   neighbours_followed (suc n) (s ∷ ss) k = ap (λ (t : Bool). p s || t) (neighbours_followed n ss k)
 
-pub faulty_followed : (ss : List Standing) (k : ℕ) → faulty (followed ss k) ≡ faulty ss
+faulty_followed : (ss : List Standing) (k : ℕ) → faulty (followed ss k) ≡ faulty ss
 unfolding faulty
 faulty_followed [] zero = refl
 faulty_followed [] (suc k) = rw (some_followed (clash nobody) refl [] k) (faulty_followed [] k)

@@ -32,7 +32,7 @@ use Rattle.chassis.proofs.Places.{SomeAt, some_says, SomeElse, else_says, faulty
 
 -- ---- the six tests
 
-pub nine_says : (cs : List Controller) → Says (wrong_length (length cs)) (Nine cs)
+nine_says : (cs : List Controller) → Says (wrong_length (length cs)) (Nine cs)
 nine_says cs = says_or (eqb (length cs) 0) (ltb 4 (length cs)) (says_eqb (length cs) 0) (says_ltb 4 (length cs))
 
 pub one_says : (cs : List Controller) → Says (faulty (standings cs)) (One cs)
@@ -128,10 +128,10 @@ module _ (cs : List Controller) (n w : ℕ) where
 -- ---- by cases on the six tests
 
 -- A number that is given, and one that isn't.
-pub so : {A : Type 0} {k : ℕ} → A → (k ≡ k) ↔ A
+so : {A : Type 0} {k : ℕ} → A → (k ≡ k) ↔ A
 so a = (λ e. a, λ b. refl)
 
-pub no : {A : Type 0} {r k : ℕ} → eqb r k ≡ false → (A → ⊥) → (r ≡ k) ↔ A
+no : {A : Type 0} {r k : ℕ} → eqb r k ≡ false → (A → ⊥) → (r ≡ k) ↔ A
 no d f = (λ e. absurd (eqb-false _ _ d e), λ a. absurd (f a))
 
 module _ (cs : List Controller) (n w : ℕ) where

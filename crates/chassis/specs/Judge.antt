@@ -11,7 +11,6 @@ use Rattle.dock.specs.declared.Controller.{Controller}
 use Rattle.dock.specs.declared.Standing.{Standing}
 use Rattle.chassis.specs.declared.Verdict.{Verdict}
 use Rattle.chassis.specs.declared.Verdict.TheVariants.{Sent, Refused}
-use Rattle.chassis.specs.declared.Refusal.{Refusal}
 use Rattle.chassis.specs.declared.Refusal.TheVariants.{WrongLength, Unfit, StrayBit, Absent, NotStarted, AddressTaken}
 
 -- Some element of a list is so.
@@ -93,12 +92,9 @@ unfoldable pub by_word : ℕ → List Standing → ℕ → Unpacked → Verdict
 by_word records ss n NoEvent = Refused StrayBit
 by_word records ss n (Accepted e) = by_event records ss n e
 
--- Before them, whatever the call: 9, 1. For a list of so many records that stand so, what a refusal comes to, or else the other.
-abbrev pub on_list : {A : Type 0} → ℕ → List Standing → (Refusal → A) → A → A
-on_list records ss refuses other = cond (wrong_length records) (refuses WrongLength) (cond (faulty ss) (refuses Unfit) other)
-
+-- Before them: 9, 1. For a list of so many records that stand so.
 unfoldable pub judged : ℕ → List Standing → ℕ → ℕ → Verdict
-judged records ss n w = on_list records ss Refused (by_word records ss n (unpacked w))
+judged records ss n w = cond (wrong_length records) (Refused WrongLength) (cond (faulty ss) (Refused Unfit) (by_word records ss n (unpacked w)))
 
 abbrev pub standings : List Controller → List Standing
 standings cs = map standing_of cs

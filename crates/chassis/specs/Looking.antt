@@ -16,11 +16,8 @@ begun = record { standings = nobody ∷ nobody ∷ nobody ∷ nobody ∷ []; cou
 abbrev pub seen_with : Seen → Controller → Seen
 seen_with s c = cond (ltb s.count MOST) (record { standings = set s.standings s.count (standing_of c); count = s.count + 1 }) s
 
--- The first so many of a list, one after the other, whatever is kept of each.
-unfoldable pub fold_to : {A : Type 0} → (A → Controller → A) → A → ℕ → List Controller → A
-fold_to more a zero cs = a
-fold_to more a (suc i) [] = a
-fold_to more a (suc i) (c ∷ cs) = fold_to more (more a c) i cs
-
-abbrev pub seen_to : Seen → ℕ → List Controller → Seen
-seen_to s i cs = fold_to seen_with s i cs
+-- The first so many of a list.
+unfoldable pub seen_to : Seen → ℕ → List Controller → Seen
+seen_to s zero cs = s
+seen_to s (suc i) [] = s
+seen_to s (suc i) (c ∷ cs) = seen_to (seen_with s c) i cs

@@ -1,9 +1,9 @@
 // Which call is refused, and with what (document 02, request 9): 9, 1, 2, 10, 3, 11, in this order.
 ghost use Rattle.std.specs.Prelude.{◌≡◌, length, get_or};
 ghost use Rattle.event.specs.Words.{unpacked};
-ghost use Rattle.chassis.specs.Judge.{some, clash, faulty, names, nobody, started, unheard, has, neighbours, address_taken, by_event, on_list, judged};
+ghost use Rattle.chassis.specs.Judge.{some, clash, faulty, names, nobody, started, unheard, has, neighbours, address_taken, by_event, judged};
 
-use crate::{Errand, Listed, MOST, Refusal, Seen, Verdict};
+use crate::{Errand, MOST, Refusal, Seen, Verdict};
 use dock::Standing;
 use event::{Event, Unpacked};
 
@@ -145,27 +145,16 @@ impl Seen {
         Verdict::Sent(event)
     }
 
-    // Refusals 9 and 1, of a list of so many records.
-    pub fn listed(self, records: usize) -> Listed
-        ensures { result ≡ on_list records self.standings Listed.Refused Listed.Usable }
-    {
-        if (records == 0) | (MOST < records) {
-            return Listed::Refused(Refusal::WrongLength);
-        }
-        if self.faulty() {
-            return Listed::Refused(Refusal::Unfit);
-        }
-        Listed::Usable
-    }
-
     // What becomes of a word for a list of so many records.
     fn verdict(self, records: usize, named: usize, word: u16) -> Verdict
         requires { length self.standings ≡ 4 }
         ensures { result ≡ judged records self.standings named word }
     {
-        let listed = self.listed(records);
-        if let Listed::Refused(refusal) = listed {
-            return Verdict::Refused(refusal);
+        if (records == 0) | (MOST < records) {
+            return Verdict::Refused(Refusal::WrongLength);
+        }
+        if self.faulty() {
+            return Verdict::Refused(Refusal::Unfit);
         }
         let unpacked = event::unpack(word);
         let Unpacked::Accepted(event) = unpacked else {

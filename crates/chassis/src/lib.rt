@@ -12,7 +12,6 @@ mod stepping;
 use bus::Reply;
 use dock::{Controller, Standing};
 use event::Event;
-pub use looking::looked_at;
 
 // The most records that a list has.
 pub const MOST: usize = 4;
@@ -63,13 +62,6 @@ pub struct Stepped {
 
 // ---- a call in parts, for who keeps records otherwise than in a list: each is looked at, the call is judged, and what each that the event reaches
 // replies is gathered
-
-// Whether a list can be called at all, whatever the call.
-#[derive(Clone, Copy)]
-pub enum Listed {
-    Usable,
-    Refused(Refusal),
-}
 
 // What becomes of a call.
 #[derive(Clone, Copy)]

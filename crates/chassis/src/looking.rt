@@ -7,7 +7,7 @@ use crate::{MOST, Seen};
 use dock::{Controller, Standing};
 
 // Of a list of the wrong length no record is looked at.
-pub fn looked_at(records: usize) -> usize
+fn looked_at(records: usize) -> usize
     ensures { result ≡ looked_at records }
 {
     if records <= MOST { records } else { 0 }

@@ -19,7 +19,6 @@ use Rattle.dock.proofs.Controller.goes.Reads as goes_reads
 use Rattle.dock.proofs.Controller.reading.Reads as reading_reads
 use Rattle.dock.proofs.Controller.outputs.Reads as outputs_reads
 use Rattle.dock.proofs.Controller.held.Reads as held_reads
-use Rattle.dock.proofs.Controller.wants_host.Reads as wants_host_reads
 use Rattle.dock.proofs.Answer.refusal.Reads as refusal_reads
 use Rattle.dock.proofs.Answer.reply.Reads as reply_reads
 use Rattle.dock.proofs.Answer.byte.Reads as byte_Reads
@@ -52,10 +51,6 @@ outputs_determined x r s p q = p ∙ sym q
 
 pub held_determined : (x : Controller) (r s : HeldByte) → held_reads.Post tt (x, tt) r (x, tt) → held_reads.Post tt (x, tt) s (x, tt) → r ≡ s
 held_determined x r s p q = p ∙ sym q
-
-pub wants_host_determined :
-    (x : Controller) (i : ℕ) (r s : Bool) → wants_host_reads.Post tt (x, (i, tt)) r (x, (i, tt)) → wants_host_reads.Post tt (x, (i, tt)) s (x, (i, tt)) → r ≡ s
-wants_host_determined x i r s p q = p ∙ sym q
 
 pub refusal_determined : (a : Answer) (r s : ℕ) → refusal_reads.Post tt (a, tt) r (a, tt) → refusal_reads.Post tt (a, tt) s (a, tt) → r ≡ s
 refusal_determined a r s p q = p ∙ sym q

@@ -9,7 +9,6 @@ pub mod Parts
 pub mod Remreq
 pub mod Refusals
 pub mod Sharing
-pub mod Wants
 pub mod Letr
 pub mod Wait
 pub mod Inputs

@@ -5,7 +5,6 @@ pub mod Step
 pub mod Name
 pub mod Held
 pub mod Shared
-pub mod Wanting
 pub mod Refusals
 pub mod Run
 pub mod Examples

@@ -1,6 +1,6 @@
 // The controller of a two-bay dock (document 01; document 03): a machine and a bus command in progress, one event word at a
 // time, the call that names its kind, and the questions that change nothing: one register's reading, the nine outputs, the
-// byte that an open read holds, how it stands on a bus that it shares, and whether a bay wants the host.
+// byte that an open read holds, and how it stands on a bus that it shares.
 #![tactic(auto)]
 
 mod answers;
@@ -10,7 +10,6 @@ mod name;
 mod record;
 mod shared;
 mod step;
-mod wanting;
 
 use bus::{Progress, Reply};
 use machine::{Act, Machine};

@@ -21,7 +21,6 @@ use Rattle.link.proofs.queues.dock_queue_put.Reads as queue_put_reads
 use Rattle.link.proofs.queues.dock_queue_take.Reads as queue_take_reads
 use Rattle.link.proofs.held.dock_held_byte.Reads as held_byte_reads
 use Rattle.link.proofs.lists.dock_chassis_step.Reads as chassis_step_reads
-use Rattle.link.proofs.wanting.dock_chassis_who.Reads as chassis_who_reads
 
 pub version_determined : (r s : ℕ) → version_reads.Post tt tt r tt → version_reads.Post tt tt s tt → r ≡ s
 version_determined r s p q = p ∙ sym q
@@ -115,7 +114,3 @@ pub chassis_step_determined :
     → chassis_step_reads.Post κs (states, (n, (w, tt))) r (left, (n, (w, tt))) → chassis_step_reads.Post κs (states, (n, (w, tt))) s (left', (n, (w, tt)))
     → (r ≡ s) × (left.now ≡ left'.now)
 chassis_step_determined κs states n w r s left left' p q = (p.0 ∙ sym q.0, p.1 ∙ sym q.1)
-
-pub chassis_who_determined :
-    (κs : _) (states : Bor (List ℕ)) (r s : ℕ) → chassis_who_reads.Post κs (states, tt) r (states, tt) → chassis_who_reads.Post κs (states, tt) s (states, tt) → r ≡ s
-chassis_who_determined κs states r s p q = p ∙ sym q

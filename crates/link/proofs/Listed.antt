@@ -15,7 +15,6 @@ use Rattle.chassis.specs.Chassis.{told_by, records_by, records_of, told_of}
 use Rattle.chassis.specs.Numbers.{answer_refusal}
 use Rattle.chassis.specs.Refusals.{Nine, One}
 use Rattle.chassis.specs.Run.{ChassisCall, after_calls, own_calls}
-use Rattle.chassis.specs.declared.Refusal.{Refusal}
 use Rattle.chassis.specs.declared.Refusal.TheVariants.{WrongLength, Unfit}
 use Rattle.chassis.proofs.Refusals.{exactly, refused_unchanged}
 use Rattle.chassis.proofs.Run.{each_alone, calls_length}
@@ -24,7 +23,7 @@ use Rattle.image.specs.Load.{state_in}
 use Rattle.image.specs.Shape.{Shaped, Octets}
 use Rattle.image.proofs.RoundTrip.{saved_length, saved_image, state_back}
 use Rattle.image.proofs.Shape.{calls_shaped}
-use Rattle.link.specs.Lists.{images_of, images_in, not_images, parts_of, parts_in, states_in, all_images, in_images, refused_with, told_in, list_in}
+use Rattle.link.specs.Lists.{images_of, images_in, not_images, parts_of, parts_in, states_in, all_images, refused_with, told_in, list_in}
 use Rattle.link.proofs.Parts.{images_length}
 use Rattle.link.proofs.RanList.{parts_length, images_back, whole_bytes, whole_list, OfFour, of_four}
 
@@ -56,33 +55,27 @@ pub record OnImages (cs : List Controller) (n w : ℕ) : Type 0 where
   pub told : told_in (images_of cs) n w ≡ told_of cs n w
   pub left : list_in (images_of cs) n w ≡ images_of (records_of cs n w)
 
-module _ (cs : List Controller) (h : AllShaped cs) where
+module _ (cs : List Controller) (h : AllShaped cs) (n w : ℕ) where
   as_many : images_in (length (images_of cs)) ≡ length cs
   as_many = rw (images_length cs) (omega arith)
 
   parts_in_lem : parts_in (images_of cs) ≡ map saved cs
   parts_in_lem = ap (λ k. parts_of k (images_of cs)) as_many ∙ parts_of_images cs
 
-  -- What the images of records give is what the records do, where a list of the wrong length is refused by either.
-  pub images_give :
-      {A : Type 0} (gives : List Controller → A) (refuses : Refusal → A)
-      → (wrong_length (length cs) ≡ true → refuses WrongLength ≡ gives cs) → in_images (images_of cs) gives refuses ≡ gives cs
-  images_give {A} gives refuses long = go (wrong_length (length cs)) refl
+  pub on_images : OnImages cs n w
+  unfolding told_in list_in judged told_by records_by
+  on_images = go (wrong_length (length cs)) refl
     where
       as_records : (b : Bool) → wrong_length (length cs) ≡ b → not_images (length (images_of cs)) ≡ b
       as_records b e = whole_bytes (length (images_of cs)) (rw (images_length cs) (omega arith)) b (rw as_many e)
 
-      go : (b : Bool) → wrong_length (length cs) ≡ b → in_images (images_of cs) gives refuses ≡ gives cs
-      go true e = rw (as_records true e) (long e)
-      go false e = rw (as_records false e, parts_in_lem, all_saved cs, states_back cs h)
-
-  pub on_images : (n w : ℕ) → OnImages cs n w
-  unfolding told_in list_in judged told_by records_by
-  on_images n w =
-      record {
-        told = images_give (λ l. told_of l n w) refused_with (λ e. rw e);
-        left = images_give (λ l. images_of (records_of l n w)) (λ x. images_of cs) (λ e. rw e);
-      }
+      go : (b : Bool) → wrong_length (length cs) ≡ b → OnImages cs n w
+      go true e = record { told = rw (as_records true e, e); left = rw (as_records true e, e) }
+      go false e =
+          record {
+            told = rw (as_records false e, parts_in_lem, all_saved cs, states_back cs h);
+            left = rw (as_records false e, parts_in_lem, all_saved cs, states_back cs h);
+          }
 
 -- Any calls and names leave such records.
 pub calls_all_shaped : (cs : List Controller) (calls : List ChassisCall) → AllShaped cs → AllShaped (after_calls cs calls)

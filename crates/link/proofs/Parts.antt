@@ -10,18 +10,19 @@ use lib.ListN.{length, get_or, take, drop, length-append, length-drop}
 use lib.Seq.{get_or-drop, take-suc-set, take_at, drop_at, drop-drop, length-take-le}
 use Rattle.dock.specs.Record.{fresh_controller}
 use Rattle.dock.specs.declared.Controller.{Controller}
-use Rattle.chassis.specs.Looking.{fold_to}
+use Rattle.chassis.specs.Looking.{begun, seen_with, seen_to}
 use Rattle.chassis.specs.Passing.{set_out_of, passed_of, records_to, round_to}
 use Rattle.chassis.specs.declared.Errand.{Errand}
 use Rattle.chassis.specs.declared.Passed.{Passed}
 use Rattle.chassis.specs.declared.Round.{Round}
-use Rattle.chassis.proofs.Loops.{fold_none, fold_next, round_none, records_length, record_waits, records_next, round_next}
+use Rattle.chassis.specs.declared.Seen.{Seen}
+use Rattle.chassis.proofs.Loops.{seen_none, seen_next, round_none, records_length, record_waits, records_next, round_next}
 use Rattle.image.specs.Save.{saved}
 use Rattle.image.specs.Load.{whole, is_image, state_in, load_of}
 use Rattle.image.specs.declared.Loaded.{Loaded}
 use Rattle.image.specs.Shape.{Octets}
 use Rattle.image.proofs.RoundTrip.{saved_length}
-use Rattle.link.specs.Lists.{images_of, parts_of, states_of, all_images, record_in, loaded_in, round_in, passed_in}
+use Rattle.link.specs.Lists.{images_of, parts_of, states_of, all_images, record_in, loaded_in, Looks, round_in, passed_in}
 
 -- ---- parts
 
@@ -81,33 +82,34 @@ image_at (suc count) (suc i) bytes l h =
     let rest = ((and-eq-true_iff (is_image (take 74 bytes)) (all_images (parts_of count (drop 74 bytes)))).0 h).1 in
     rw (drop-drop (i * 74) 74 bytes, next) at (image_at count i (drop 74 bytes) (omega arith) rest)
 
--- ---- looking, whatever is kept of each
+-- ---- looking
 
-module _ {A : Type 0} (more : A → Controller → A) (start : A) where
-  pub record Looking (bytes : List ℕ) (count i : ℕ) (kept : A) (all : Bool) : Type 0 where
-    pub within : i ≤ count
-    pub so_far : kept ≡ fold_to more start i (loaded_in bytes count)
-    pub images : all ≡ all_images (parts_of i bytes)
+pub record Looking (bytes : List ℕ) (count i : ℕ) (seen : Seen) (all : Bool) : Type 0 where
+  pub within : i ≤ count
+  pub so_far : seen ≡ seen_to begun i (loaded_in bytes count)
+  pub images : all ≡ all_images (parts_of i bytes)
 
-  pub none_seen : (bytes : List ℕ) (count : ℕ) (kept : A) → kept ≡ start → Looking bytes count 0 kept true
-  unfolding parts_of all_images
-  none_seen bytes count kept e = record { within = omega arith; so_far = e ∙ sym (fold_none more start (loaded_in bytes count)); images = refl }
+pub none_seen : (bytes : List ℕ) (count : ℕ) (seen : Seen) → seen ≡ begun → Looking bytes count 0 seen true
+unfolding parts_of all_images
+none_seen bytes count seen e = record { within = omega arith; so_far = e ∙ sym (seen_none begun (loaded_in bytes count)); images = refl }
 
-  module _ (bytes : List ℕ) (count i : ℕ) (kept : A) (all : Bool) (h : Looking bytes count i kept all) where
-    pub looks_on :
-        i < count → (l : Loaded) → l ≡ load_of (part_at i bytes) → (a : A) → a ≡ more kept l.controller
-        → Looking bytes count (i + 1) a (all && whole l.verdict)
-    unfolding load_of is_image
-    looks_on here l e a q =
-        let c : l.controller ≡ get_or (loaded_in bytes count) i fresh_controller = ap (λ (x : Loaded). x.controller) e ∙ sym (made_at record_in count i bytes fresh_controller here) in
-        record {
-          within = omega arith;
-          so_far = q ∙ rw (h.so_far, c) (fold_next more start i (loaded_in bytes count) fresh_controller (rw (made_length record_in count bytes) here));
-          images = rw (parts_next i bytes, images_next (parts_of i bytes) (part_at i bytes), ← h.images, e);
-        }
+module _ (bytes : List ℕ) (count i : ℕ) (seen : Seen) (all : Bool) (h : Looking bytes count i seen all) where
+  pub looks_on :
+      i < count → (l : Loaded) → l ≡ load_of (part_at i bytes) → (s : Seen) → s ≡ seen_with seen l.controller
+      → Looking bytes count (i + 1) s (all && whole l.verdict)
+  unfolding load_of is_image
+  looks_on here l e s q =
+      let c : l.controller ≡ get_or (loaded_in bytes count) i fresh_controller = ap (λ (x : Loaded). x.controller) e ∙ sym (made_at record_in count i bytes fresh_controller here) in
+      record {
+        within = omega arith;
+        so_far = q ∙ rw (h.so_far, c) (seen_next begun i (loaded_in bytes count) fresh_controller (rw (made_length record_in count bytes) here));
+        images = rw (parts_next i bytes, images_next (parts_of i bytes) (part_at i bytes), ← h.images, e);
+      }
 
-    pub all_seen : count ≤ i → (kept ≡ fold_to more start count (loaded_in bytes count)) × (all ≡ all_images (parts_of count bytes))
-    all_seen end = let e : i ≡ count = omega (arith, h.within) in (rw e at h.so_far, rw e at h.images)
+  pub all_seen : count ≤ i → Looks bytes count (record { seen = seen; whole = all })
+  all_seen end =
+      let e : i ≡ count = omega (arith, h.within) in
+      record { seen = rw e at h.so_far; whole = rw e at h.images }
 
 -- ---- writing
 

@@ -92,7 +92,7 @@ module _ (bytes : List ℕ) where
   pub record One : Type 0 where
     pub by_step : (w : ℕ) → (refusal_of (answer_in bytes w) ≡ 1) ↔ (usable ≡ false)
     pub by_batch : (words room : ℕ) → (outcome_refusal (outcome_in bytes words room) ≡ 1) ↔ (usable ≡ false)
-    pub by_reading_lem : (a : ℕ) → (told_refusal (reading_in bytes a) ≡ 1) ↔ (usable ≡ false)
+    pub by_reading : (a : ℕ) → (told_refusal (reading_in bytes a) ≡ 1) ↔ (usable ≡ false)
     pub by_outputs : (told_refusal (outputs_in bytes) ≡ 1) ↔ (usable ≡ false)
     pub by_held_byte : (held_refusal (held_in bytes) ≡ 1) ↔ (usable ≡ false)
 
@@ -115,7 +115,7 @@ module _ (bytes : List ℕ) where
             λ words room.
             by_image (λ b. (outcome_refusal (cond b (outcome_of (state_in bytes) words room) outcome.Unfit) ≡ 1) ↔ ((b && fits (state_in bytes).machine) ≡ false))
             (λ i. (batch_exactly (state_in bytes) words room).one) (λ i. (λ e. refl, λ e. refl));
-        by_reading_lem =
+        by_reading =
             λ a.
             by_image (λ b. (told_refusal (cond b (told_reading (state_in bytes) a) told.Unfit) ≡ 1) ↔ ((b && fits (state_in bytes).machine) ≡ false))
             (λ i. told_exactly _ _ (reading_told (state_in bytes) a)) (λ i. (λ e. refl, λ e. refl));

@@ -5,4 +5,3 @@ pub mod Held
 pub mod Wires
 pub mod Queues
 pub mod Lists
-pub mod Wanting

@@ -9,12 +9,10 @@ pub mod lists;
 pub mod queues;
 pub mod replay;
 pub mod version;
-pub mod wanting;
 pub mod wires;
 
 use chassis::Seen;
 use event::Event;
-use who::Asking;
 
 // What three numbers mean.
 #[derive(Clone, Copy)]
@@ -27,14 +25,6 @@ enum Meant {
 #[derive(Clone, Copy)]
 struct Looked {
     seen: Seen,
-    // Each part is an image.
-    whole: bool,
-}
-
-// What has been asked of a list of images.
-#[derive(Clone, Copy)]
-struct Asked {
-    asking: Asking,
     // Each part is an image.
     whole: bool,
 }

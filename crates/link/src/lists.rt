@@ -16,7 +16,7 @@ use chassis::{Answer, Errand, MOST, Refusal, Round, Seen, Told};
 use image::load::load;
 use image::{Loaded, Verdict};
 
-pub(crate) fn is_whole(verdict: Verdict) -> bool
+fn is_whole(verdict: Verdict) -> bool
     ensures { result ≡ whole verdict }
 {
     match verdict {
@@ -34,7 +34,7 @@ const FOUR: usize = 4 * image::BYTES;
 
 // How many images so many bytes are, 0 where they are not those of one to four. They are compared and not divided: a small processor would need a
 // function for a division of 64 bits, and the library links alone.
-pub(crate) fn images_in(bytes: usize) -> usize
+fn images_in(bytes: usize) -> usize
     ensures { result ≡ count_in bytes }
 {
     if bytes == image::BYTES {
@@ -53,7 +53,7 @@ pub(crate) fn images_in(bytes: usize) -> usize
 }
 
 // The part at a place.
-pub(crate) fn load_at(states: &[u8], place: usize) -> Loaded
+fn load_at(states: &[u8], place: usize) -> Loaded
     requires place_bound { place ≤ 3 }
     requires place_in_bounds { (place + 1) * BYTES ≤ length states.now }
     ensures { result ≡ load_of (take BYTES (drop (place * BYTES) states.now)) }

@@ -9,7 +9,6 @@ use Rattle.machine.proofs.Machine.fresh.Reads as fresh_reads
 use Rattle.machine.proofs.Machine.fit.Reads as fit_reads
 use Rattle.machine.proofs.Machine.reading.Reads as reading_reads
 use Rattle.machine.proofs.Machine.outputs.Reads as outputs_reads
-use Rattle.machine.proofs.Machine.wants_host.Reads as wants_host_reads
 use Rattle.machine.proofs.Machine.does.Reads as does_reads
 use Rattle.machine.proofs.setting.pulse_ticks.Reads as pulse_ticks_reads
 
@@ -25,10 +24,6 @@ reading_determined m a r s p q = p ∙ sym q
 
 pub outputs_determined : (m : Machine) (r s : ℕ) → outputs_reads.Post tt (m, tt) r (m, tt) → outputs_reads.Post tt (m, tt) s (m, tt) → r ≡ s
 outputs_determined m r s p q = p ∙ sym q
-
-pub wants_host_determined :
-    (m : Machine) (i : ℕ) (r s : Bool) → wants_host_reads.Post tt (m, (i, tt)) r (m, (i, tt)) → wants_host_reads.Post tt (m, (i, tt)) s (m, (i, tt)) → r ≡ s
-wants_host_determined m i r s p q = p ∙ sym q
 
 pub does_determined :
     (m : Machine) (a : Act) (r s : Acted) → does_reads.Post tt (m, (a, tt)) r (m, (a, tt)) → does_reads.Post tt (m, (a, tt)) s (m, (a, tt)) → r ≡ s

@@ -14,7 +14,6 @@ pub mod Laws
 pub mod Map
 pub mod SecondMap
 pub mod Drives
-pub mod Wanting
 pub mod Moves
 pub mod Remreq
 pub mod Letr

@@ -5,7 +5,6 @@ pub mod FirstKind
 pub mod SecondKind
 pub mod InForce
 pub mod Outputs
-pub mod Wanting
 pub mod Acts
 pub mod After
 pub mod Own

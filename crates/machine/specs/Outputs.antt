@@ -17,7 +17,3 @@ wants m i = is_open m i && interrupts (bay_at m i)
 -- Bit 8 to 0: power 0, lock pin 0, green 0, yellow 0, the same for bay 1, interrupt asserted. A state not started has outputs 000.
 unfoldable pub outputs : Machine → ℕ
 outputs m = cond m.started (nibble m 0 * 32 + nibble m 1 * 2 + put 0 (wants m 0 || wants m 1)) 0
-
--- A bay's own interrupt condition (document 02, request 10): the bay is open, and the machine started.
-unfoldable pub wants_host : Machine → ℕ → Bool
-wants_host m i = m.started && wants m i

@@ -75,7 +75,7 @@ fn moved(open: bool, hides: bool, bay: Bay, ticks: u16, inputs: Inputs) -> Bay
 }
 
 // A tick finds nothing to do in either bay, and leaves both as they are.
-#[tactic(auto, using(crate::proofs::Bays::each), unfolding(crate::specs::Acts::restful, crate::specs::Record::bay_in))]
+#[tactic(auto, unfolding(crate::specs::Acts::restful, crate::specs::Record::bay_in))]
 fn rest(bays: [Bay; 2]) -> bool
     ensures value { result ≡ restful bays }
     ensures i_value { result ≡ true → (hides : Bool) (s : Setting) (i : ℕ) → ticked_bay hides s (bay_in bays i) ≡ bay_in bays i }

@@ -1,10 +1,10 @@
 // The nine outputs (document 01, "Replies and refusal numbers" and "Bay moves").
 ghost use Rattle.std.specs.Prelude.{◌≡◌, cond, ◌&&◌};
 ghost use Rattle.bay.specs.Outputs.{bay_outputs, interrupts};
-ghost use Rattle.machine.specs.Outputs.{outputs, wants_host};
+ghost use Rattle.machine.specs.Outputs.{outputs};
 
 use crate::Machine;
-use crate::record::{bay_in, is_open};
+use crate::record::is_open;
 use crate::setting::is_lit;
 use bay::{Bay, Setting};
 
@@ -28,7 +28,7 @@ fn wants(open: bool, bay: Bay) -> bool
 
 impl Machine {
     // Bit 8 to 0: bay 0's power, lock pin, green, yellow, the same for bay 1, interrupt asserted.
-    #[tactic(auto, using(crate::proofs::Choice::chosen, crate::proofs::Choice::passed), unfolding(crate::specs::Outputs::outputs, crate::specs::Outputs::nibble, crate::specs::Outputs::wants, crate::specs::Record::bay_in, crate::specs::Record::open_by))]
+    #[tactic(auto, unfolding(crate::specs::Outputs::outputs, crate::specs::Outputs::nibble, crate::specs::Outputs::wants, crate::specs::Record::bay_in, crate::specs::Record::open_by))]
     pub fn outputs(self) -> u16
         ensures { result ≡ outputs self }
     {
@@ -48,14 +48,5 @@ impl Machine {
         } else {
             both
         }
-    }
-
-    // Bay 0's own interrupt condition, or else bay 1's. A closed bay has none, nor has one of a machine that isn't started.
-    #[tactic(auto, unfolding(crate::specs::Outputs::wants_host, crate::specs::Outputs::wants))]
-    pub fn wants_host(self, i: u8) -> bool
-        ensures { result ≡ wants_host self i }
-    {
-        let bays = self.bays;
-        self.started & wants(is_open(self.shared.bay_count, i), bay_in(bays, i))
     }
 }

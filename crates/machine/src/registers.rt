@@ -107,7 +107,7 @@ impl Machine {
     }
 
     // Only the first write after a RESET counts; count 1 closes bay 1 and makes its record empty.
-    #[tactic(auto, using(crate::proofs::Choice::chosen, crate::proofs::Choice::passed), unfolding(crate::specs::Registers::dbccr_write, crate::specs::Registers::dbccr_stored, crate::specs::Record::bay_in))]
+    #[tactic(auto, unfolding(crate::specs::Registers::dbccr_write, crate::specs::Registers::dbccr_stored, crate::specs::Record::bay_in))]
     pub(crate) fn with_dbccr(self, value: u8) -> Machine
         ensures { result ≡ dbccr_write value self }
     {
@@ -137,7 +137,7 @@ impl Machine {
         }
     }
 
-    #[tactic(auto, using(crate::proofs::Bays::meant), unfolding(crate::specs::Registers::bstr_write))]
+    #[tactic(auto, unfolding(crate::specs::Registers::bstr_write))]
     pub(crate) fn with_bstr(self, i: u8, value: u8) -> Machine
         ensures { result ≡ bstr_write i value self }
     {
@@ -164,7 +164,7 @@ impl Machine {
         }
     }
 
-    #[tactic(auto, using(crate::proofs::Bays::meant), unfolding(crate::specs::Registers::bcer_write))]
+    #[tactic(auto, unfolding(crate::specs::Registers::bcer_write))]
     pub(crate) fn with_bcer(self, i: u8, value: u8) -> Machine
         ensures { result ≡ bcer_write i value self }
     {

@@ -149,7 +149,7 @@ impl Machine {
     }
 
     // The first write opens the locks of both bays, and power goes with them; no other counts.
-    #[tactic(auto, using(crate::proofs::Choice::chosen, crate::proofs::Choice::passed), unfolding(crate::specs::SecondKind::sfr_write, crate::specs::Record::bay_in))]
+    #[tactic(auto, unfolding(crate::specs::SecondKind::sfr_write, crate::specs::Record::bay_in))]
     fn with_sfr(self, value: u8) -> Machine
         ensures { result ≡ sfr_write value self }
     {

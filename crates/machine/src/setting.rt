@@ -90,7 +90,7 @@ impl Machine {
         }
     }
 
-    #[tactic(auto, using(crate::proofs::Choice::chosen, crate::proofs::Choice::passed), unfolding(crate::specs::Setting::setting_of))]
+    #[tactic(auto, unfolding(crate::specs::Setting::setting_of))]
     pub(crate) fn setting(self) -> Setting
         ensures { result ≡ setting_of self }
     {

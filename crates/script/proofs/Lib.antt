@@ -1,5 +1,4 @@
 pub mod Passing
 pub mod Further
 pub mod OneWord
-pub mod Few
 pub mod Theorems

@@ -106,15 +106,12 @@ examples =
     ∷ line "dock 0" (Does (order.Choose 0))
     ∷ line "dock 3" (Does (order.Choose 3))
     ∷ line "dock 255" (Does (order.Choose 255))
-    ∷ line "who" (Does order.Wanting)
-    ∷ line " who  # wants me" (Does order.Wanting)
     ∷ line "  w\t1C=8c  # a comment" (Does (order.Write 0x1C 0x8C 0))
     ∷ line "stop\r" (Does (order.Event event.Stop))
     ∷ line "" Blank
     ∷ line "   # w 14=04" Blank
     ∷ line "W 14=04" Unknown
     ∷ line "regsregsregs" Unknown
-    ∷ line "whom" Unknown
     ∷ line "w 14=4" (Misused verb.W)
     ∷ line "w 14:04" (Misused verb.W)
     ∷ line "w 14 =04" (Misused verb.W)
@@ -164,5 +161,4 @@ examples =
     ∷ line "dock 256" (Misused verb.Dock)
     ∷ line "dock A" (Misused verb.Dock)
     ∷ line "dock 1 2" (Misused verb.Dock)
-    ∷ line "who 0" (Misused verb.Who)
     ∷ []

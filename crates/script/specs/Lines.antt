@@ -11,9 +11,9 @@ use Rattle.script.specs.Verbs.{name, verb_of}
 use Rattle.script.specs.Arguments.{octet_of, word_of, pair_of, ticks_of, small_of, all_further}
 use Rattle.script.specs.Hands.{hand_line}
 use Rattle.script.specs.declared.Verb.{Verb}
-use Rattle.script.specs.declared.Verb.TheVariants.{Reset, Pins, Tick, Timeout, Start, Stop, Byte, Take, Word, W, R, At, Out, Regs, Help, Save, Load, Kind, Chassis, Dock, Who}
+use Rattle.script.specs.declared.Verb.TheVariants.{Reset, Pins, Tick, Timeout, Start, Stop, Byte, Take, Word, W, R, At, Out, Regs, Help, Save, Load, Kind, Chassis, Dock}
 use Rattle.script.specs.declared.Order.{Order}
-use Rattle.script.specs.declared.Order.TheVariants.{Event, Ticks, Word as AWord, Write, Read, Address, Outputs, Registers, Help as Verbs, Save as Saving, Load as Loading, Name, Docks, Choose, Wanting}
+use Rattle.script.specs.declared.Order.TheVariants.{Event, Ticks, Word as AWord, Write, Read, Address, Outputs, Registers, Help as Verbs, Save as Saving, Load as Loading, Name, Docks, Choose}
 use Rattle.script.specs.declared.Line.{Line}
 use Rattle.script.specs.declared.Line.TheVariants.{Blank, Unknown, Misused, Does}
 use Rattle.script.specs.declared.Named.{Named}
@@ -95,7 +95,6 @@ order_line Load t = given Load (not (eqb (length t) 0)) Loading
 order_line Kind t = given Kind (small_of t).good (Name (small_of t).value)
 order_line Chassis t = chassis_line t
 order_line Dock t = given Dock (small_of t).good (Choose (small_of t).value)
-order_line Who t = alone_line Who t Wanting
 
 -- No verb takes more than one word.
 unfoldable pub verb_line : Verb → List ℕ → Line

@@ -2,7 +2,7 @@
 use Rattle.std.specs.Prelude.{ℕ, cond, List, [], ◌∷◌, eqb}
 use Prim.Native.String.{String}
 use Rattle.script.specs.Text.{characters, spelled}
-use Rattle.script.specs.declared.Verb.TheVariants.{Reset, Pins, Tick, Timeout, Start, Stop, Byte, Take, Word, W, R, At, Out, Regs, Help, Save, Load, Kind, Chassis, Dock, Who}
+use Rattle.script.specs.declared.Verb.TheVariants.{Reset, Pins, Tick, Timeout, Start, Stop, Byte, Take, Word, W, R, At, Out, Regs, Help, Save, Load, Kind, Chassis, Dock}
 use Rattle.script.specs.declared.Hand.TheVariants.{Insert, Remove, Press, Release, Secure, Unsecure}
 use Rattle.script.specs.declared.Named.{Named}
 use Rattle.script.specs.declared.Named.TheVariants.{This, AtBay, Nothing}
@@ -40,7 +40,6 @@ verbs =
     ∷ entry "kind" (This Kind)
     ∷ entry "chassis" (This Chassis)
     ∷ entry "dock" (This Dock)
-    ∷ entry "who" (This Who)
     ∷ entry "insert" (AtBay Insert)
     ∷ entry "remove" (AtBay Remove)
     ∷ entry "press" (AtBay Press)

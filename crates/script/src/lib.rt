@@ -35,7 +35,6 @@ pub enum Verb {
     Kind,
     Chassis,
     Dock,
-    Who,
 }
 
 // The word that a line about a bay begins with: what a person does there.
@@ -84,8 +83,6 @@ pub enum Order {
     Docks(u8),
     // Choose a dock by its number, also one that isn't there.
     Choose(u8),
-    // Tell which bay wants the host.
-    Wanting,
 }
 
 // What a line means.

@@ -155,7 +155,6 @@ fn order(verb: Verb, text: &[u8]) -> Line
             let n = small(text);
             given(verb, n.good, Order::Choose(n.value))
         }
-        Verb::Who => given(verb, alone, Order::Wanting),
     }
 }
 

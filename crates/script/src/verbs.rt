@@ -45,8 +45,6 @@ const CHASSIS: u64 = 0x73_69_73_73_61_68_63;
 
 const DOCK: u64 = 0x6B_63_6F_64;
 
-const WHO: u64 = 0x6F_68_77;
-
 const INSERT: u64 = 0x74_72_65_73_6E_69;
 
 const REMOVE: u64 = 0x65_76_6F_6D_65_72;
@@ -95,7 +93,6 @@ pub(crate) fn verb(name: u64) -> Named
         KIND => Named::This(Verb::Kind),
         CHASSIS => Named::This(Verb::Chassis),
         DOCK => Named::This(Verb::Dock),
-        WHO => Named::This(Verb::Who),
         INSERT => Named::AtBay(Hand::Insert),
         REMOVE => Named::AtBay(Hand::Remove),
         PRESS => Named::AtBay(Hand::Press),

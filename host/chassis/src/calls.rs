@@ -1,7 +1,7 @@
 //! Lists of events as they come to a chassis, each meant for its controllers as they then are, and names between them.
 
-use model::{Chassis, Controller, Kind, Refusal, CHASSIS_RECORDS};
-use paper::words::{byte, pins, read_all, reset, reset_short, take, write, START, STOP, TICK, TIMEOUT};
+use model::{Chassis, Controller, Refusal, CHASSIS_RECORDS};
+use paper::words::{byte, pins, read_all, reset, reset_short, take, START, STOP, TICK, TIMEOUT};
 use std::fmt;
 use trial::{lists, Random};
 
@@ -158,46 +158,8 @@ impl Writer<'_> {
         let own = self.dock(place).map_or(0x90, |dock| dock.write_address());
         for address in [0x10, 0x14, 0x18, 0x1C] {
             let value = self.random.pick(&[0xA5, 0x84, 0x24, 0xAD]);
-            self.write(own, address, value);
+            [START, byte(own), byte(address), byte(value), STOP].into_iter().for_each(|word| self.put_to_all(word));
         }
-    }
-
-    /// A device or a button in one controller, with the enables of its bays before it and after it, and sometimes with
-    /// bay 1 closed: some bays come to want the host, some have one half of what it takes, and some are cleared.
-    fn want(&mut self) {
-        let place = self.some_place();
-        let dock = self.dock(place).unwrap_or_default();
-        let own = dock.write_address();
-        let (status, control) = match dock.kind() {
-            Kind::First => ([0x10, 0x18], [0x14, 0x1C]),
-            Kind::Second => ([0x14, 0x20], [0x10, 0x18]),
-        };
-        if self.random.one_in(6) {
-            self.write(own, 0x0C, 0x01);
-        }
-        self.write_some(own, control, &[0x00, 0x04, 0x08, 0x0C]);
-        let levels = self.random.pick(&[0xBF, 0xFB, 0xBB, 0xFF]);
-        let button = self.random.pick(&[0xDF, 0xFD, 0xDD, 0xFF]);
-        self.put(place as u64, pins(levels));
-        (0..10).for_each(|_| self.put_to_all(TICK));
-        self.put(place as u64, pins(levels & button));
-        (0..5).for_each(|_| self.put_to_all(TICK));
-        self.write_some(own, status, &[0x04, 0x08, 0x0C]);
-        self.write_some(own, control, &[0x00, 0x04, 0x08, 0x0C]);
-    }
-
-    /// To the register of either bay, of both or of none.
-    fn write_some(&mut self, own: u8, registers: [u8; 2], values: &[u8]) {
-        for register in registers {
-            if self.random.one_in(2) {
-                let value = self.random.pick(values);
-                self.write(own, register, value);
-            }
-        }
-    }
-
-    fn write(&mut self, own: u8, register: u8, value: u8) {
-        write(own, register, value).into_iter().for_each(|word| self.put_to_all(word));
     }
 
     /// Words of one controller's life, which all hear as far as they can.
@@ -266,7 +228,7 @@ impl Writer<'_> {
     }
 
     fn scene(&mut self) {
-        match self.random.below(23) {
+        match self.random.below(20) {
             0..=5 => self.live(),
             6 | 7 => self.read(),
             8 => self.start_all(),
@@ -281,7 +243,6 @@ impl Writer<'_> {
                 self.name(place, number);
             }
             18 => (0..self.random.between(1, 60)).for_each(|_| self.put_to_all(TICK)),
-            19..=21 => self.want(),
             _ => self.calls.push(Call::Keep),
         }
     }

@@ -1,9 +1,8 @@
 //! What a run came to.
 
 use crate::alone::{refusal, Told};
-use crate::asked::{Asked, FOUND};
+use crate::seen;
 use crate::situations::{self, Situation};
-use crate::{seen, wanting};
 use std::collections::BTreeMap;
 use std::fmt;
 
@@ -17,17 +16,7 @@ pub struct Counts {
     accepted: usize,
     /// By the number of the refusal.
     refused: BTreeMap<u64, usize>,
-    /// Questions which bay wants the host: by whether one was found, or by the number of the refusal.
-    found: usize,
-    none: usize,
-    unanswered: BTreeMap<u64, usize>,
     seen: BTreeMap<Situation, usize>,
-}
-
-/// So many of each refusal.
-fn told(refused: &BTreeMap<u64, usize>) -> String {
-    let told: Vec<_> = refused.iter().map(|(number, count)| format!("{} with {}", count, number)).collect();
-    told.join(", ")
 }
 
 impl Counts {
@@ -39,17 +28,6 @@ impl Counts {
         }
         for situation in seen::of(told) {
             *self.seen.entry(situation).or_default() += 1;
-        }
-    }
-
-    pub fn count_asked(&mut self, asked: &Asked) {
-        match asked.answer >> 16 {
-            0 if asked.answer & FOUND != 0 => self.found += 1,
-            0 => self.none += 1,
-            number => *self.unanswered.entry(number.into()).or_default() += 1,
-        }
-        for wanting in wanting::of(asked) {
-            *self.seen.entry(Situation::Who(wanting)).or_default() += 1;
         }
     }
 
@@ -65,10 +43,10 @@ impl Counts {
 
 impl fmt::Display for Counts {
     fn fmt(&self, f: &mut fmt::Formatter) -> fmt::Result {
-        let Counts { lists, made_up, names, kept, accepted, refused, found, none, unanswered, .. } = self;
+        let refused: Vec<_> = self.refused.iter().map(|(number, count)| format!("{} with {}", count, number)).collect();
+        let Counts { lists, made_up, names, kept, accepted, .. } = self;
         writeln!(f, "{} generated lists, {} made up, {} names, {} kept", lists, made_up, names, kept)?;
-        writeln!(f, "{} calls accepted, refused {}", accepted, told(refused))?;
-        writeln!(f, "asked who: found {} times, none {}, refused {}", found, none, told(unanswered))?;
+        writeln!(f, "{} calls accepted, refused {}", accepted, refused.join(", "))?;
         if let Some((situation, least)) = self.situations().min_by_key(|&(_, count)| count) {
             writeln!(f, "{} situations, each at least {} times ({})", self.situations().count(), least, situation)?;
         }

@@ -2,7 +2,6 @@
 //! that shows a mismatch.
 
 use crate::alone::Told;
-use crate::asked::Asked;
 use crate::calls::Call;
 use crate::counts::Counts;
 use dock::STATE_BYTES;
@@ -14,7 +13,6 @@ const SHOWN: usize = 200;
 /// What the calls make of the list. They are counted.
 pub fn follow(before: &[u8], calls: &[Call], counts: &mut Counts) -> Result<Vec<u8>, Mismatch> {
     let mut held = HeldChassis::of_bytes(before);
-    ask(&mut held, counts)?;
     for &call in calls {
         match call {
             Call::Step { record, word } => step(&mut held, record, word, counts)?,
@@ -27,18 +25,8 @@ pub fn follow(before: &[u8], calls: &[Call], counts: &mut Counts) -> Result<Vec<
                 counts.kept += 1;
             }
         }
-        ask(&mut held, counts)?;
     }
     Ok(held.bytes().to_vec())
-}
-
-/// Which bay wants the host, of the list as it stands before a call, between two and after the last.
-fn ask(held: &mut HeldChassis, counts: &mut Counts) -> Result<(), Mismatch> {
-    let answer = held.who()?;
-    let asked = Asked { list: held.bytes(), answer };
-    asked.holds()?;
-    counts.count_asked(&asked);
-    Ok(())
 }
 
 fn step(held: &mut HeldChassis, record: u64, word: u16, counts: &mut Counts) -> Result<(), Mismatch> {

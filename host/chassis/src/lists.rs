@@ -1,10 +1,14 @@
 //! Lists to begin with: of records that others left, with one that is damaged or a copy of another, and of other
 //! lengths.
 
-use crate::record::{BAY_COUNT, KIND, PROGRESS, STARTED, STRAPS, WANTING};
 use dock::STATE_BYTES;
 use model::CHASSIS_RECORDS;
 use trial::Random;
+
+const STARTED: usize = 1;
+const KIND: usize = 2;
+const STRAPS: usize = 41;
+const PROGRESS: usize = 71;
 
 /// So many images are kept for later lists.
 const KEPT: usize = 64;
@@ -102,21 +106,6 @@ fn flipped(random: &mut Random, list: &mut [u8]) {
     list[bit / 8] ^= 1 << (bit % 8);
 }
 
-/// Status and enables of all bays by lot, so that each may want the host, or have one half of what it takes: in few of
-/// them or in most.
-fn flagged(random: &mut Random, list: &mut [u8]) {
-    let most = random.between(1, 7);
-    for image in list.chunks_exact_mut(STATE_BYTES) {
-        WANTING.iter().flatten().for_each(|&at| image[at] = u8::from(random.below(8) < most));
-    }
-}
-
-/// Bay 1 of one is closed, whatever it holds.
-fn closed(random: &mut Random, list: &mut [u8]) {
-    let place = random.below(list.len() / STATE_BYTES);
-    image(list, place)[BAY_COUNT] = 1;
-}
-
 /// One is not started, whatever else it holds.
 fn stopped(random: &mut Random, list: &mut [u8]) {
     let place = random.below(list.len() / STATE_BYTES);
@@ -139,12 +128,6 @@ pub fn of_length(random: &mut Random, pool: &Pool, length: usize) -> Vec<u8> {
 }
 
 fn changed(random: &mut Random, mut list: Vec<u8>) -> Vec<u8> {
-    if random.one_in(2) {
-        flagged(random, &mut list);
-    }
-    if random.one_in(4) {
-        closed(random, &mut list);
-    }
     match random.below(10) {
         0 => {}
         1 => copied(random, &mut list),

@@ -5,22 +5,18 @@
 //!
 //! CALLS is how many calls are compared at least (1,000,000 if not given), SEED where the generator begins. After every
 //! call the answer and every byte of the list are compared with the model's, and what stands before and after them.
-//! They are held against the library's own single calls on each record too, with no model. Before the first call of a
-//! list and after each the library is asked which bay wants the host, and that is compared in the same two ways. There are
-//! lists that were begun, that events led to, that were put together from records of other lists, and that nobody saved.
+//! They are held against the library's own single calls on each record too, with no model. There are lists that were
+//! begun, that events led to, that were put together from records of other lists, and that nobody saved.
 
 mod alone;
-mod asked;
 mod calls;
 mod counts;
 mod follow;
 mod lists;
 mod reasons;
-mod record;
 mod run;
 mod seen;
 mod situations;
-mod wanting;
 
 use run::Run;
 use std::process::ExitCode;

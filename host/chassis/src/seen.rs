@@ -1,18 +1,48 @@
 //! Which situations a call came to, seen from the bytes and the library's answers, not from the model.
 
-use crate::alone::{is_for_one, outputs, refusal, Told};
+use crate::alone::{has_open_read, is_for_one, is_started, outputs, refusal, Told};
+use crate::lists::is_of_right_length;
 use crate::reasons::Reason::{self, *};
 use crate::reasons::REASONS;
-use crate::record::{self, Record, KIND, STARTED};
 use crate::situations::Situation::{self, *};
-use dock::ffi;
+use dock::{ffi, STATE_BYTES};
 use model::CHASSIS_RECORDS;
+
+const STARTED: usize = 1;
+const KIND: usize = 2;
+const STRAPS: usize = 41;
+const PROGRESS: usize = 71;
 
 const BYTE: u16 = 2;
 const TAKE: u16 = 3;
 const PINS: u16 = 4;
 const RESET: u16 = 6;
 const SHORT_PULSE: u16 = 1 << 12;
+
+/// What can be seen of one record before a call.
+struct Record<'a> {
+    image: &'a [u8],
+    is_fit: bool,
+    is_started: bool,
+    has_open_read: bool,
+}
+
+impl Record<'_> {
+    fn of(image: &[u8]) -> Record<'_> {
+        let is_fit = ffi::outputs(image) >> 16 == 0;
+        let is_started = is_fit && is_started(image);
+        Record { image, is_fit, is_started, has_open_read: is_started && has_open_read(image) }
+    }
+
+    fn address(&self) -> u8 {
+        self.image[STRAPS] >> 2
+    }
+
+    /// Whether a read stands in its bytes, one of the kind in force or not.
+    fn shows_read(&self) -> bool {
+        matches!(self.image[PROGRESS], 6 | 8)
+    }
+}
 
 /// One call with what its records were.
 struct Seen<'a> {
@@ -23,7 +53,8 @@ struct Seen<'a> {
 
 /// The situations of one call.
 pub fn of(told: &Told) -> Vec<Situation> {
-    let seen = Seen { told, records: record::all(told.before), kind: told.word >> 13 };
+    let records = told.before.chunks_exact(STATE_BYTES).map(Record::of).collect();
+    let seen = Seen { told, records, kind: told.word >> 13 };
     if refusal(told.answer) == 0 {
         seen.accepted()
     } else {
@@ -49,7 +80,13 @@ impl Seen<'_> {
         let Told { before, word, .. } = *self.told;
         let none_started = self.started().next().is_none();
         match reason {
-            Length | Unfit | OneAddress | TwoReads => record::is_against(before, &self.records, reason),
+            Length => !is_of_right_length(before),
+            Unfit => self.records.iter().any(|record| !record.is_fit),
+            OneAddress => {
+                let with = |address| self.started().filter(|record| record.address() == address).count();
+                (0..4).any(|address| with(address) > 1)
+            }
+            TwoReads => self.started().filter(|record| record.has_open_read).count() > 1,
             StrayBit => ffi::unpack(word) >> 16 & 0xFF != 0,
             Absent => is_for_one(word) && self.named().is_none(),
             NotStarted if self.kind == PINS => self.named().map_or(none_started, |record| !record.is_started),

@@ -2,7 +2,6 @@
 
 use self::Situation::*;
 use crate::reasons::{Reason, REASONS};
-use crate::wanting::{self, Wanting};
 use model::CHASSIS_RECORDS;
 use std::fmt;
 
@@ -58,8 +57,6 @@ pub enum Situation {
     OutputsOfAnother,
     /// Nothing driven by a record that is not started and would drive something if it were.
     OutputsNotStarted,
-    /// What the question came to which bay wants the host.
-    Who(Wanting),
 }
 
 /// All that must have come.
@@ -77,7 +74,6 @@ pub fn all() -> Vec<Situation> {
     all.extend([AddressOfNotStarted, ShortPulse, LongPulse, TwinNotStarted, ReaderNotStarted, ReadOfOtherKind]);
     all.extend([AckedBySeveral, NotAcked, NotDriven, OutputsAllDifferent, OutputsOfAnother, OutputsNotStarted]);
     all.extend((1..=CHASSIS_RECORDS).map(Outputs));
-    all.extend(wanting::all().into_iter().map(Who));
     all
 }
 

@@ -10,8 +10,8 @@ use model::{Controller, MOST_WORDS};
 use paper::{Step, Story};
 use trial::{lists, Call, Random, Room};
 
-/// What dock_version answers: 5.4, accepted.
-const VERSION: u32 = 0x0504;
+/// What dock_version answers: 5.3, accepted.
+const VERSION: u32 = 0x0503;
 
 /// Kinds that pack is asked for: the eight and two that do not exist.
 const KINDS: u8 = 10;

@@ -1,6 +1,6 @@
 //! Answers taken apart: the refusal and the value of a call, the record of a word.
 
-use crate::{Bay, Error, Outputs, Refusal, Reply, Unnamed, CHASSIS_RECORDS, RECORD_BYTES};
+use crate::{Error, Outputs, Refusal, Reply, Unnamed, CHASSIS_RECORDS, RECORD_BYTES};
 
 /// The value of an answer that has no bit set above its refusal.
 pub(crate) fn value(answer: u32) -> Result<u16, Error> {
@@ -61,28 +61,6 @@ pub(crate) fn chassis_step(answer: u64) -> Result<ChassisStep, Error> {
     let reply = Reply::try_from(((high >> 25) as u8, (high >> 17) as u8))?;
     let outputs = |place: u32| Outputs::try_from((answer >> place) as u16 & 0xFFF);
     Ok(ChassisStep { reply, outputs: [outputs(36)?, outputs(24)?, outputs(12)?, outputs(0)?] })
-}
-
-/// Which bay of a chassis wants the host.
-#[derive(Clone, Copy, PartialEq, Eq, Debug)]
-pub struct Who {
-    /// The controller, counted from 0, and its bay; `None` where no bay wants the host.
-    pub bay: Option<(usize, Bay)>,
-    /// How many bays were looked at: all up to the one that is found, or all that the chassis has.
-    pub looked: usize,
-}
-
-/// The bay in an answer: bit 8 where one is found, bits 6-5 its controller, bit 4 the bay, 3-0 how many were looked at.
-pub(crate) fn who(answer: u32) -> Result<Who, Error> {
-    let value = value(answer)?;
-    let looked = usize::from(value & 0xF);
-    let place = usize::from(value >> 4 & 7);
-    let bay = if value & 0x10 == 0 { Bay::Zero } else { Bay::One };
-    match value & 0xFF80 {
-        0 if place == 0 && matches!(looked, 2 | 4 | 6 | 8) => Ok(Who { bay: None, looked }),
-        0x100 if looked == place + 1 => Ok(Who { bay: Some((place / 2, bay)), looked }),
-        _ => Err(Unnamed { what: "bay that wants the host", number: answer }.into()),
-    }
 }
 
 /// The record of one word, refused or not.
@@ -169,22 +147,6 @@ mod tests {
         assert_eq!(held(0x0001_0000), Err(Error::Refused(Refusal::UnfitState)));
         for number in [0x0001, 0x0200, 0x0301] {
             assert_eq!(held(number), Err(Error::Unnamed(Unnamed { what: "held byte", number })));
-        }
-    }
-
-    #[test]
-    fn a_bay_is_found_or_all_were_looked_at() {
-        for (record, bay, number) in [(0, Bay::Zero, 0x101), (0, Bay::One, 0x112), (1, Bay::Zero, 0x123)] {
-            assert_eq!(who(number), Ok(Who { bay: Some((record, bay)), looked: 2 * record + bay as usize + 1 }));
-        }
-        assert_eq!(who(0x178), Ok(Who { bay: Some((3, Bay::One)), looked: 8 }));
-        for looked in [2, 4, 6, 8] {
-            assert_eq!(who(looked), Ok(Who { bay: None, looked: looked as usize }));
-        }
-        assert_eq!(who(0x0009_0000), Err(Refusal::ChassisLength.into()));
-        assert_eq!(who(0x0001_0000), Err(Refusal::UnfitState.into()));
-        for number in [0x000, 0x003, 0x00A, 0x012, 0x100, 0x102, 0x113, 0x181, 0x201, 0x301, 0x8101] {
-            assert_eq!(who(number), Err(Error::Unnamed(Unnamed { what: "bay that wants the host", number })));
         }
     }
 

@@ -1,7 +1,7 @@
 //! One to four controllers on one bus.
 
-use crate::answer::{chassis_step, who};
-use crate::{check_library, ffi, ChassisStep, Dock, Error, Event, Refusal, Who};
+use crate::answer::chassis_step;
+use crate::{check_library, ffi, ChassisStep, Dock, Error, Event, Refusal};
 
 /// A word with a bit that must be 0, which every list refuses that is not refused for itself.
 const STRAY: u16 = 0x0001;
@@ -89,7 +89,7 @@ impl<D: AsRef<[Dock]> + AsMut<[Dock]>> Chassis<D> {
     /// or none has and the word is not one; [`Refusal::TakenAddress`] where a RESET would give the address of another
     /// that has had one.
     pub fn step(&mut self, record: usize, word: u16) -> Result<ChassisStep, Error> {
-        chassis_step(ffi::chassis_step(ffi::images_mut(self.docks_mut()), record as u64, word))
+        chassis_step(ffi::chassis_step(ffi::images(self.docks_mut()), record as u64, word))
     }
 
     /// One event; refused as its word would be, and with [`Refusal::WideStraps`] where it has none.
@@ -109,43 +109,6 @@ impl<D: AsRef<[Dock]> + AsMut<[Dock]>> Chassis<D> {
     /// ```
     pub fn event(&mut self, record: usize, event: Event) -> Result<ChassisStep, Error> {
         self.step(record, u16::try_from(event)?)
-    }
-
-    /// Which bay wants the host, where the controllers have one interrupt line in common: the first whose own interrupt
-    /// condition holds, in the order of the list and bay 0 before bay 1. In each controller it is asked at the addresses
-    /// of its kind. A bay that is closed and a controller that has had no RESET are looked at and never found. It is a
-    /// question, and changes nothing.
-    ///
-    /// Refused with [`Refusal::ChassisLength`] and [`Refusal::UnfitState`] as by [`Chassis::new`].
-    ///
-    /// ```
-    /// use dock::{Bay, Chassis, Dock, Event, Register};
-    ///
-    /// let mut chassis = Chassis::new([Dock::new()?, Dock::new()?])?;
-    /// for (record, straps) in [(0, 0b0000), (1, 0b0100)] {
-    ///     chassis.event(record, Event::Reset { straps, levels: 0xBB, short_pulse: false })?; // a device in each bay
-    /// }
-    /// for bay in [Bay::Zero, Bay::One] {
-    ///     for event in dock::write(0x92, Register::control(bay), 0x04) {
-    ///         chassis.event(0, event)?; // the host is to hear of changes in both bays of controller 1
-    ///     }
-    /// }
-    /// let mut served = Vec::new();
-    /// while let Some((record, bay)) = chassis.who()?.bay {
-    ///     let status = chassis.docks()[record].status(bay)?; // of that bay alone
-    ///     assert!(status.status_changed());
-    ///     for event in dock::write(0x90 + 2 * record as u8, Register::status(bay), status.bits()) {
-    ///         chassis.event(0, event)?; // what was seen is cleared
-    ///     }
-    ///     served.push((record, bay));
-    /// #   assert!(served.len() < 8);
-    /// }
-    /// assert_eq!(served, [(1, Bay::Zero), (1, Bay::One)]);
-    /// assert_eq!(chassis.who()?.looked, 4);
-    /// # Ok::<(), dock::Error>(())
-    /// ```
-    pub fn who(&self) -> Result<Who, Error> {
-        who(ffi::chassis_who(ffi::images(self.docks())))
     }
 
     /// The byte that the next TAKE drives, from which SDAT is driven before the TAKE is known; `None` where no read is

@@ -38,7 +38,6 @@ extern "C" {
     fn dock_queue_put(queue: *mut u8, queue_len: u64, word: u16) -> u32;
     fn dock_queue_take(queue: *mut u8, queue_len: u64) -> u32;
     fn dock_chassis_step(states: *mut u8, states_len: u64, record: u64, word: u16) -> u64;
-    fn dock_chassis_who(states: *const u8, states_len: u64) -> u32;
 }
 
 /// A length has 64 bits in the interface, whatever a pointer has.
@@ -133,19 +132,8 @@ pub fn chassis_step(states: &mut [u8], record: u64, word: u16) -> u64 {
     unsafe { dock_chassis_step(states.as_mut_ptr(), len(states), record, word) }
 }
 
-pub fn chassis_who(states: &[u8]) -> u32 {
-    // SAFETY: the slice goes with its own length; the call only reads.
-    unsafe { dock_chassis_who(states.as_ptr(), len(states)) }
-}
-
-/// The images of the docks, one after the other, for a question.
-pub(crate) fn images(docks: &[Dock]) -> &[u8] {
-    // SAFETY: a dock is its image and nothing else (`repr(transparent)`), and bytes need no alignment.
-    unsafe { core::slice::from_raw_parts(docks.as_ptr().cast(), STATE_BYTES * docks.len()) }
-}
-
-/// The same, for an event. What a call leaves there is always an image of a fit state.
-pub(crate) fn images_mut(docks: &mut [Dock]) -> &mut [u8] {
+/// The images of the docks, one after the other. What a call leaves there is always an image of a fit state.
+pub(crate) fn images(docks: &mut [Dock]) -> &mut [u8] {
     // SAFETY: a dock is its image and nothing else (`repr(transparent)`), and bytes need no alignment.
     unsafe { core::slice::from_raw_parts_mut(docks.as_mut_ptr().cast(), STATE_BYTES * docks.len()) }
 }

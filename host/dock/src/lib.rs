@@ -44,7 +44,7 @@ mod reply;
 mod version;
 mod wire;
 
-pub use answer::{records, ChassisStep, Record, Step, Who};
+pub use answer::{records, ChassisStep, Record, Step};
 pub use chassis::Chassis;
 pub use error::{Error, Refusal, Unnamed};
 pub use event::{read, write, Event};

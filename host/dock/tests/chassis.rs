@@ -1,6 +1,6 @@
 //! The wrapper's own part of the chassis: what it makes of the library's numbers, and what it keeps on a refusal.
 
-use dock::{Bay, Chassis, Dock, Error, Event, Kind, Refusal, Register, Reply, SecondRegister, Who, CHASSIS_RECORDS};
+use dock::{Bay, Chassis, Dock, Error, Event, Kind, Refusal, Register, Reply, SecondRegister, CHASSIS_RECORDS};
 
 const TICK: u16 = 0xA000;
 const TAKE: u16 = 0x6000;
@@ -148,81 +148,6 @@ fn kinds_may_be_mixed() {
     assert_eq!(step.outputs.map(|outputs| outputs.bits()), [0x041, 0x041, 0, 0]);
     assert_eq!(read(&mut chassis, 0x90, 0x00).last(), Some(&Reply::Driven(0x55)));
     assert_eq!(read(&mut chassis, 0x92, 0x00).last(), Some(&Reply::Driven(0x60)));
-}
-
-/// A whole write, through the chassis.
-fn write(chassis: &mut Chassis<Vec<Dock>>, record: usize, register: u8, value: u8) {
-    dock::write(own(record), register, value).iter().for_each(|&event| assert!(chassis.event(0, event).is_ok()));
-}
-
-#[test]
-fn nobody_wants_the_host_of_fresh_docks() {
-    for count in 1..=CHASSIS_RECORDS {
-        assert_eq!(Chassis::new(fresh(count)).unwrap().who(), Ok(Who { bay: None, looked: 2 * count }));
-        assert_eq!(started(count).who(), Ok(Who { bay: None, looked: 2 * count }));
-    }
-}
-
-#[test]
-fn a_bay_that_wants_the_host_is_found_at_its_place() {
-    for record in 0..CHASSIS_RECORDS {
-        for (bay, levels) in [(Bay::Zero, 0xBF), (Bay::One, 0xFB)] {
-            let mut chassis = started(CHASSIS_RECORDS);
-            let straps = (record as u8) << 2;
-            chassis.event(record, Event::Reset { straps, levels, short_pulse: false }).unwrap();
-            write(&mut chassis, record, Register::control(bay), 0x04);
-            let before = chassis.clone();
-            assert_eq!(chassis.who(), Ok(Who { bay: Some((record, bay)), looked: 2 * record + bay as usize + 1 }));
-            assert_eq!(chassis, before);
-            assert!(chassis.docks()[record].outputs().unwrap().interrupt());
-        }
-    }
-}
-
-#[test]
-fn a_bay_of_the_second_kind_is_found_by_its_own_registers() {
-    let mut chassis = started(2);
-    chassis.docks_mut()[1].name_kind(Kind::Second).unwrap();
-    chassis.event(1, Event::Reset { straps: 4, levels: 0xFB, short_pulse: false }).unwrap();
-    write(&mut chassis, 1, Register::control(Bay::One), 0x04);
-    assert_eq!(chassis.who(), Ok(Who { bay: None, looked: 4 }));
-    write(&mut chassis, 1, SecondRegister::control(Bay::One), 0x04);
-    assert_eq!(chassis.who(), Ok(Who { bay: Some((1, Bay::One)), looked: 4 }));
-    write(&mut chassis, 0, Register::control(Bay::Zero), 0x04);
-    assert_eq!(chassis.who(), Ok(Who { bay: Some((0, Bay::Zero)), looked: 1 }));
-}
-
-#[test]
-fn a_closed_bay_is_passed_over() {
-    let mut chassis = started(2);
-    write(&mut chassis, 0, Register::CAPABILITIES, 0x01);
-    write(&mut chassis, 1, Register::control(Bay::Zero), 0x04);
-    assert_eq!(chassis.who(), Ok(Who { bay: Some((1, Bay::Zero)), looked: 3 }));
-}
-
-#[test]
-fn who_is_refused_as_a_step_is() {
-    let mut chassis = started(2);
-    write(&mut chassis, 0, Register::control(Bay::Zero), 0x04);
-    let twin = chassis.docks()[0].clone();
-    chassis.docks_mut()[1] = twin;
-    assert_eq!(chassis.who(), refused(Refusal::UnfitState));
-    // Docks of which one alone is lent for events: what is asked can be longer than what was taken.
-    struct Uneven(Vec<Dock>);
-    impl AsRef<[Dock]> for Uneven {
-        fn as_ref(&self) -> &[Dock] {
-            &self.0
-        }
-    }
-    impl AsMut<[Dock]> for Uneven {
-        fn as_mut(&mut self) -> &mut [Dock] {
-            &mut self.0[..1]
-        }
-    }
-    for count in [1, 4] {
-        assert_eq!(Chassis::new(Uneven(fresh(count))).unwrap().who(), Ok(Who { bay: None, looked: 2 * count }));
-    }
-    assert_eq!(Chassis::new(Uneven(fresh(5))).unwrap().who(), refused(Refusal::ChassisLength));
 }
 
 #[test]

@@ -1,4 +1,4 @@
-//! One to four controllers on one bus, request 9 (document 02), and which of their bays wants the host, request 10.
+//! One to four controllers on one bus, request 9 (document 02).
 //!
 //! What happens on the bus, a TIMEOUT and a TICK come to every controller that is started, as on a wire that they
 //! share; pins and the RESET line are each controller's own.
@@ -7,9 +7,6 @@ use crate::{unpack, Controller, Event, Refusal, Reply, STATE_BYTES};
 
 /// The most records that a list may have.
 pub const CHASSIS_RECORDS: usize = 4;
-
-/// The bays of each, closed or not.
-const BAYS: usize = 2;
 
 /// The answer of a list to one event word.
 #[derive(Clone, Copy, PartialEq, Eq, Debug)]
@@ -30,23 +27,6 @@ impl ChassisAnswer {
         let reply = u64::from(self.reply.number());
         let byte = u64::from(self.reply.byte());
         self.outputs.iter().fold(refusal << 12 | reply << 9 | byte << 1, |bits, &set| bits << 12 | u64::from(set))
-    }
-}
-
-/// The answer of a list that was asked which bay wants the host.
-#[derive(Clone, Copy, PartialEq, Eq, Debug)]
-pub struct Who {
-    /// The place of the controller in the list, and the bay.
-    pub found: Option<(usize, usize)>,
-    /// How many bays were looked at.
-    pub looked: usize,
-}
-
-impl Who {
-    /// Bit 8 where one is found, bits 6-5 its controller, bit 4 the bay; bits 3-0 how many were looked at.
-    pub fn value(&self) -> u16 {
-        let found = self.found.map_or(0, |(place, bay)| 1 << 8 | place << 5 | bay << 4);
-        (found | self.looked) as u16
     }
 }
 
@@ -87,36 +67,14 @@ impl Chassis {
         }
     }
 
-    /// The first bay whose own interrupt condition holds, in list order and bay 0 first. Every bay that is there counts
-    /// as looked at, up to the one that is found, whether or not it can want anybody.
-    pub fn who(&self) -> Result<Who, Refusal> {
-        self.taken()?;
-        let mut looked = 0;
-        for (place, dock) in self.records.iter().flatten().enumerate() {
-            for bay in 0..BAYS {
-                looked += 1;
-                if dock.wants_host(bay) {
-                    return Ok(Who { found: Some((place, bay)), looked });
-                }
-            }
-        }
-        Ok(Who { found: None, looked })
-    }
-
-    /// Nothing where the list itself is taken.
-    fn taken(&self) -> Result<(), Refusal> {
+    /// The word's event, where nothing is against it. The first refusal that applies is the one given.
+    fn event(&self, record: u64, word: u16) -> Result<Event, Refusal> {
         if self.records.is_empty() || self.records.len() > CHASSIS_RECORDS {
             return Err(Refusal::ChassisLength);
         }
         if self.records.iter().any(Option::is_none) || self.share_an_address() || self.open_reads() > 1 {
             return Err(Refusal::UnfitState);
         }
-        Ok(())
-    }
-
-    /// The word's event, where nothing is against it. The first refusal that applies is the one given.
-    fn event(&self, record: u64, word: u16) -> Result<Event, Refusal> {
-        self.taken()?;
         let event = unpack(word).ok_or(Refusal::StrayBit)?;
         match event {
             Event::Pins(_) if !self.named(record)?.started => Err(Refusal::NotStarted),

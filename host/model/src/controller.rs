@@ -215,11 +215,6 @@ impl Controller {
         }
     }
 
-    /// Whether the bay with this number gives the interrupt; a closed one doesn't, nor any before the first RESET.
-    pub(crate) fn wants_host(&self, bay: usize) -> bool {
-        self.started && self.open_bays().get(bay).map_or(false, Bay::interrupts)
-    }
-
     /// The nine outputs, bit 8 to 0; before the first RESET, 0.
     pub fn outputs(&self) -> u16 {
         if !self.started {

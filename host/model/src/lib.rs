@@ -33,7 +33,7 @@ mod wire;
 
 pub use answer::{Answer, Refusal, Reply, RECORD_BYTES};
 pub use batch::MOST_WORDS;
-pub use chassis::{Chassis, ChassisAnswer, Who, CHASSIS_RECORDS};
+pub use chassis::{Chassis, ChassisAnswer, CHASSIS_RECORDS};
 pub use controller::Controller;
 pub use event::{pack, unpack, Event};
 pub use image::{is_image, STATE_BYTES};

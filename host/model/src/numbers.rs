@@ -1,7 +1,7 @@
 //! The model's answers as the numbers of the C interface (`include/dock.h`): a refusal times 65,536 plus a value, and
 //! above both what the first number of an unpacked word has beyond a byte.
 
-use crate::{Chassis, Controller, Event, Refusal};
+use crate::{Controller, Event, Refusal};
 
 /// A refusal has value 0.
 pub fn answer(result: Result<u16, Refusal>) -> u32 {
@@ -28,11 +28,6 @@ pub fn name_kind(dock: &mut Controller, number: u8) -> u32 {
 /// A byte that is held is told beside bit 8, so that 00h is not none.
 pub fn held_byte(dock: &Controller) -> u16 {
     dock.held_byte().map_or(0, |byte| u16::from_be_bytes([1, byte]))
-}
-
-/// Which bay of a list wants the host, and how many were looked at.
-pub fn who(chassis: &Chassis) -> u32 {
-    answer(chassis.who().map(|who| who.value()))
 }
 
 pub fn pack(kind: u8, first: u16, second: u8) -> u32 {

@@ -39,16 +39,6 @@ impl HeldChassis {
         self.agree(library, model.bits(), || format!("dock_chassis_step, record {}, word {:04X}h", record, word))
     }
 
-    /// Which bay wants the host.
-    pub fn who(&mut self) -> Result<u32, Mismatch> {
-        let library = ffi::chassis_who(lent(&mut self.bytes));
-        let model = match &self.model {
-            Some(chassis) => numbers::who(chassis),
-            None => numbers::answer(Err(Refusal::ChassisLength)),
-        };
-        self.agree(library, model, || "dock_chassis_who".to_string())
-    }
-
     /// Names the kind of one record, as an image of its own. Nothing where there is no such record.
     pub fn name_kind(&mut self, place: usize, number: u8) -> Result<(), Mismatch> {
         let image = lent(&mut self.bytes).chunks_exact_mut(STATE_BYTES).nth(place);

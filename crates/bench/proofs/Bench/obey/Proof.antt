@@ -69,10 +69,6 @@ returns-16 : tie.Need-returns-16
 unfolding obeyed words_of after_words
 returns-16 c = rw c.before.before.before.order11.given.1
 
-returns-17 : tie.Need-returns-17
-unfolding obeyed words_of after_words
-returns-17 c = rw c.before.enum-told6.given.1
-
 pub obey_spec : {M : Type 1} → statement M
 obey_spec =
     tie.close
@@ -118,8 +114,6 @@ obey_spec =
     (λ c. search rules)
     (λ c κs. search rules)
     (λ c κs. search rules)
-    (λ c. search rules)
-    (λ c κs. search rules)
     returns
     returns-2
     returns-3
@@ -135,5 +129,4 @@ obey_spec =
     returns-13
     returns-14
     returns-15
-    returns-16
-    returns-17)
+    returns-16)

@@ -1,40 +1,50 @@
--- `chassis::Seen::verdict` meets its contract: what the list comes to for itself is asked first, and else the word decides. Assumes nothing.
+-- `chassis::Seen::verdict` meets its contract: each return has the tests that led there, which are the definition's in its order. Assumes nothing.
 use borrow.Author.Rules.{rules}
 use Rattle.chassis.specs.Judge.{by_word, judged}
-use Rattle.chassis.specs.declared.Verdict.TheVariants.{Refused}
-use Rattle.chassis.proofs.OnList.{by_listed_lem}
 use Rattle.chassis.proofs.Seen.verdict.Statement.{statement}
 use Rattle.chassis.proofs.Seen.verdict.Tie as tie
 
 returns : tie.Need-returns
 unfolding judged
-returns c =
-    let asked = c.before.before.before in
-    rw (← by_listed_lem asked.before.args.records asked.before.args.self.standings Refused, ← asked.listed.ensures, c.before.listed2.given.1)
+returns c = rw c.if1.true
 
 returns-2 : tie.Need-returns-2
-unfolding judged by_word
-returns-2 c =
-    let told = c.before.before.before in let asked = told.before.before in
-    rw (← by_listed_lem asked.before.args.records asked.before.args.self.standings Refused, ← asked.listed.ensures, told.enum_told.given.1, ← c.before.before.unpack.ensures, c.enum-told2.given.1)
+unfolding judged
+returns-2 c = rw (c.before.before.if1.false, ← c.before.faulty.ensures, c.if2.true)
 
 returns-3 : tie.Need-returns-3
 unfolding judged by_word
 returns-3 c =
-    let unpacked = c.before.before in let told = unpacked.before.before.before in let asked = told.before.before in
-    rw (← by_listed_lem asked.before.args.records asked.before.args.self.standings Refused, ← asked.listed.ensures, told.enum_told.given.1, ← unpacked.before.before.unpack.ensures, unpacked.unpacked.given.1) c.by_event_lem.ensures
+    rw (
+      c.before.before.before.before.before.if1.false,
+      ← c.before.before.before.before.faulty.ensures,
+      c.before.before.before.if2.false,
+      ← c.before.before.unpack.ensures,
+      c.enum_told.given.1,
+    )
+
+returns-4 : tie.Need-returns-4
+unfolding judged by_word
+returns-4 c =
+    rw (
+      c.before.before.before.before.before.before.before.if1.false,
+      ← c.before.before.before.before.before.before.faulty.ensures,
+      c.before.before.before.before.before.if2.false,
+      ← c.before.before.before.before.unpack.ensures,
+      c.before.before.unpacked.given.1,
+    )
+    c.by_event_lem.ensures
 
 pub verdict_spec : {M : Type 1} → statement M
 verdict_spec =
     tie.close
     (tie.spec
-    (λ c κs. search rules)
-    (λ c. search rules)
     returns
-    (λ c. search rules)
     (λ c κs. search rules)
-    (λ c. search rules)
-    (λ c. search rules)
     returns-2
     (λ c κs. search rules)
-    returns-3)
+    (λ c. search rules)
+    (λ c. search rules)
+    returns-3
+    (λ c κs. search rules)
+    returns-4)

@@ -14,15 +14,15 @@ use seplogic.Ra.Ura.{Ura}
 use seplogic.Ra.TreeShare.{full_share}
 use package.mir.Syntax.{Ty, named, mut, w64, ty_int, ty_bool, ty_ptr, ty_ref}
 use package.mir.Val.{Val, vint, vptr}
-use base.Logic.{SProp, ent, emp, via, fst∗, id⊢}
+use base.Logic.{SProp, ent, emp, via, fst∗, snd∗, ex_e, id⊢}
 use base.Fml.{Lft, Share, GName, ftrue, fat, froom, fdies, flft, fobs, fauth, fbor, fobor}
 use prog.Memory.{Memory}
 use prog.Routine.{Routine}
 use prog.Wp.{Env, Out, Calls, Loops, Wp, WpFn, Tables, after_seq, after_block, after_turn, at_return}
 use types.Logic.{Logic, sem}
-use contract.Monad.{Fun}
+use contract.Monad.{Fun, fact}
 use contract.Running.{tables, tables_of}
-use types.Kit.{Item, Sq, runs, any_q, at_ret, ‵, raw, ◌⊛◌, ⋆, ◌$◌, ◌∵◌, !, qed, by, move, drop, use1, split, join, rewrite, fsplit, fjoin, suffices, frame, done}
+use types.Kit.{Item, Sq, runs, any_q, at_ret, ‵, raw, ◌⊛◌, some, later, ⋆, ◌$◌, ◌∵◌, !, qed, by, move, drop, use1, split, join, pick, rewrite, fsplit, fjoin, suffices, frame, await, done}
 use types.Run.{look, look_raw, init, store, store_raw, forget, stop, hop, fld, from, load, lit, and_then, no_more, of_opd, bin, assigns, assigns_last, land, first, blocks, Below, again, loops, exec, returns, enter, alloc1, alloc0, params1, pass1, pass0, free1, free0}
 use types.Part.{whole, sub, look_in}
 use sound.WpLaws.{fm_of, WpFn-mono}
@@ -37,12 +37,13 @@ use denote.Slice.{slice_ty, slice_val, MutSlice, Room, heres, coded_holeys, mut_
 use denote.Lend.{Held}
 use denote.Index.{row, place_is, elem_out, elem_put, opens_slice, closes_slice}
 use denote.Signature.{plain}
-use denote.Steps.{only, owned, nothing}
+use denote.Steps.{only, owned, peeks, heard, nothing}
 use denote.Struct.Laws as LL
 use denote.Triple.Entry.{on_entry}
 use denote.Triple.Spec.{Meets, triple_of}
 use denote.Triple.Statement.{Contract, Triple}
 use denote.Triple.Call.{calls_at}
+use denote.Triple.Clauses.{ensured, lasts}
 use denote.Triple.Table.{entered, cited}
 use denote.Triple.Walked.{says, Stays, stay_slice, stay_dropped, walk_of, Goes-slice, Goes-dropped, Walks, ends_at, walked, walk_Meets}
 use denote.Exit.{yes}
@@ -52,7 +53,6 @@ use Rattle.chassis.specs.Passing.{set_out_of, passed_of, places_by, records_to, 
 use Rattle.chassis.specs.declared.Errand.{Errand}
 use Rattle.chassis.specs.declared.Passed.{Passed}
 use Rattle.chassis.specs.declared.Round.{Round}
-use Rattle.chassis.proofs.Lending.{hears}
 use Rattle.chassis.proofs.Loops.{places_within, records_none, round_none, records_length, records_next, round_next}
 use Rattle.chassis.proofs.Turns.{tests, place_fits, next_fits, next_within, nearer}
 use Rattle.chassis.proofs.Plain.{R, vals, is_val, by_val}
@@ -147,7 +147,7 @@ module _ {M : Type 1} {𝓤 : Ura M} (𝓛 : Logic 𝓤) (𝓶 : Memory → SPro
       nothing ! $ move ! (3 ∷ 0 ∷ []) $ join ! $ frame ! $ fjoin ! $ pure_i ! (mut_slice_at R (x zs) (s ∷ [])) (tt, (tt, tt)) (ap (λ (m : ℕ). slice_val (b, o) m ∷ []) (sym same), subst (Room R) (sym same) room) $ fjoin ! $
       nothing ! $ nothing ! $ fjoin ! $ move ! (1 ∷ 0 ∷ []) $ fjoin ! $ owned ! RR (Is RR) (LL.makes TR.the_type TR'.the_plain 𝓛) r _ is $ move ! (1 ∷ 0 ∷ []) $ done !
 
-  -- What each callee's triple binds outside, and what it asks.
+  -- What each callee's triple binds outside, what it asks, and of what it ensures the clause alone.
   abbrev to_places : (Places 𝓛 𝓶 run).Ghost
   to_places = ((tt, tt, tt, (w, (n, tt)), (errand_val w ∷ [], (vint w64 n ∷ [], tt))), tt)
 
@@ -156,11 +156,17 @@ module _ {M : Type 1} {𝓤 : Ura M} (𝓛 : Logic 𝓤) (𝓶 : Memory → SPro
       qed 𝓛 (‵ ftrue ∷ []) ∵ owned ! usize (Is usize) (uint_Makes 𝓛 w64) n _ (refl, room.0) $ fjoin ! $
       owned ! RE (Is RE) (LL.makes TE.the_type TE'.the_plain 𝓛) w _ is-w $ fjoin ! $ nothing ! $ join ! $ frame ! $ done !
 
+  said_places : (r : ℕ) → ent 𝓤 (ensured 𝓛 places_of.ended (places_of.clauses 𝓛 𝓶 run) tt (w, (n, tt)) tt r) (fact 𝓤 (r ≡ places))
+  said_places r = ex_e 𝓤 _ (λ ws. snd∗ 𝓤 (sem 𝓛 (lasts places_of.ended tt (w, (n, tt)) ws)) (fact 𝓤 (r ≡ places)))
+
   abbrev to_set_out : (SetOut 𝓛 𝓶 run).Ghost
   to_set_out = ((tt, tt, tt, (w, tt), (errand_val w ∷ [], tt)), tt)
 
   asks_set_out : ent 𝓤 (sem 𝓛 ftrue) ((SetOut 𝓛 𝓶 run).pre to_set_out)
   asks_set_out = qed 𝓛 (‵ ftrue ∷ []) ∵ owned ! RE (Is RE) (LL.makes TE.the_type TE'.the_plain 𝓛) w _ is-w $ fjoin ! $ nothing ! $ join ! $ frame ! $ done !
+
+  said_set_out : (r : Round) → ent 𝓤 (ensured 𝓛 set_out.ended (set_out.clauses 𝓛 𝓶 run) tt (w, tt) tt r) (fact 𝓤 (r ≡ set_out_of w))
+  said_set_out r = ex_e 𝓤 _ (λ ws. snd∗ 𝓤 (sem 𝓛 (lasts set_out.ended tt (w, tt) ws)) (fact 𝓤 (r ≡ set_out_of w)))
 
   abbrev to_passed : Round → Controller → (Passes 𝓛 𝓶 run).Ghost
   to_passed m h = ((tt, tt, tt, (w, (m, (h, tt))), (errand_val w ∷ [], (round_val m ∷ [], (vals h, tt)))), tt)
@@ -170,6 +176,9 @@ module _ {M : Type 1} {𝓤 : Ura M} (𝓛 : Logic 𝓤) (𝓶 : Memory → SPro
       qed 𝓛 (‵ ftrue ∷ []) ∵ owned ! R (Is R) (LL.makes T.the_type T'.the_plain 𝓛) h _ is-h $ fjoin ! $
       owned ! RR (Is RR) (LL.makes TR.the_type TR'.the_plain 𝓛) m _ is_m $ fjoin ! $
       owned ! RE (Is RE) (LL.makes TE.the_type TE'.the_plain 𝓛) w _ is-w $ fjoin ! $ nothing ! $ join ! $ frame ! $ done !
+
+  said_passed : (m : Round) (h : Controller) (r : Passed) → ent 𝓤 (ensured 𝓛 passed.ended (passed.clauses 𝓛 𝓶 run) tt (w, (m, (h, tt))) tt r) (fact 𝓤 (r ≡ passed_of w m h))
+  said_passed m h r = ex_e 𝓤 _ (λ ws. snd∗ 𝓤 (sem 𝓛 (lasts passed.ended tt (w, (m, (h, tt))) ws)) (fact 𝓤 (r ≡ passed_of w m h)))
 
   -- The list with its first i records passed, and what they gave.
   abbrev part : ℕ → List Controller
@@ -244,8 +253,10 @@ module _ {M : Type 1} {𝓤 : Ura M} (𝓛 : Logic 𝓤) (𝓶 : Memory → SPro
           nothing ! $ use1 𝓛 (raw ((Passes 𝓛 𝓶 run).pre (to_passed (round i) h))) (asks_passed (round i) h known g) $
           calls_at ! (fm_of 𝓤 H 𝓛.laws 𝓣) (Passes 𝓛 𝓶 run) known-passed (to_passed (round i) h)
           (and_then ! (load ! (from ! (stop !)) (look ! 26 refl)) (and_then ! (load ! (from ! (stop !)) (look ! 22 refl)) (and_then ! (load ! (from ! (stop !)) (look ! 8 refl)) (no_more !)))) (λ v.
-          hears ! tt passed.ended (passed.clauses 𝓛 𝓶 run) (to_passed (round i) h) v (λ r. r ≡ passed_of w (round i) h) (λ r _. id⊢ 𝓤 _) (λ r e is. let parts = LL.owed TP.the_type TP'.the_laws r (v ∷ []) is in
-          let is_next : r.round ≡ round (i + 1) = ap (λ (p : Passed). p.round) e ∙ round_next w (set_out_of w) i ys fresh_controller below in drop ! $ drop ! $
+          use1 𝓛 (later (some (λ (r : Passed). (‵ ftrue ⊛ ‵ (RP.own r (v ∷ []))) ⊛ raw (ensured 𝓛 passed.ended (passed.clauses 𝓛 𝓶 run) tt (w, (round i, (h, tt))) tt r)))) (id⊢ 𝓤 _) $ await ! tt $ pick ! (λ r.
+          split ! $ move ! (1 ∷ []) $ use1 𝓛 (raw (fact 𝓤 (r ≡ passed_of w (round i) h))) (said_passed (round i) h r) $ heard ! (r ≡ passed_of w (round i) h) (λ e. split ! $ drop ! $
+          peeks ! RP (Is RP) (shows 𝓛 RP) r (v ∷ []) (λ is. let parts = LL.owed TP.the_type TP'.the_laws r (v ∷ []) is in
+          let is_next : r.round ≡ round (i + 1) = ap (λ (p : Passed). p.round) e ∙ round_next w (set_out_of w) i ys fresh_controller below in drop ! $
           land ! (from ! (stop !)) (init ! 17 refl ((LL.lawful TP.the_type TP'.the_laws 𝓛).typed r _ is).0) $ rewrite ! 17 (λ (u : Val). ‵ (fat full_share TP'.mir l₆ 0 u)) (is_val TP.the_type TP'.the_laws r v is) refl $
           -- the controller goes where the record was
           assigns ! (bin ! (load ! (from ! (stop !)) (look ! 19 refl)) (lit ! tt) (record { fits = fits })) (from ! (stop !)) (store ! 11 refl (tt, record { fits = fits })) $
@@ -259,7 +270,7 @@ module _ {M : Type 1} {𝓤 : Ura M} (𝓛 : Logic 𝓤) (𝓶 : Memory → SPro
           assigns_last ! (bin ! (load ! (from ! (stop !)) (look ! 18 refl)) (lit ! tt) (record { fits = next_fits i places n before (places_within w.verdict n) room.0 })) (from ! (stop !))
           (store ! 18 refl (tt, record { fits = next_fits i places n before (places_within w.verdict n) room.0 })) $
           forget ! 4 refl $ forget ! 6 refl $ forget ! 8 refl $ forget ! 10 refl $ forget ! 12 refl $ forget ! 16 refl $
-          again ! Nearer At (i, (le, known)) (i + 1, (next_within i places before, by_val TR.the_type TR'.the_laws r.round (round (i + 1)) _ parts.1.0 is_next)) (nearer i places before)))))
+          again ! Nearer At (i, (le, known)) (i + 1, (next_within i places before, by_val TR.the_type TR'.the_laws r.round (round (i + 1)) _ parts.1.0 is_next)) (nearer i places before)))))))
           (λ over. exec ! C Λ E mir.t-6 (at_ret E Post) $
           closes_slice ! tt R ys (part i) (same i) b o $
           -- [obs; the borrow; the token; the locals]
@@ -275,11 +286,13 @@ module _ {M : Type 1} {𝓤 : Ura M} (𝓛 : Logic 𝓤) (𝓶 : Memory → SPro
       begins =
           nothing ! $ use1 𝓛 (raw ((SetOut 𝓛 𝓶 run).pre to_set_out)) asks_set_out $
           calls_at ! (fm_of 𝓤 H 𝓛.laws 𝓣) (SetOut 𝓛 𝓶 run) known-set-out to_set_out (and_then ! (load ! (from ! (stop !)) (look ! 25 refl)) (no_more !)) (λ v.
-          hears ! tt set_out.ended (set_out.clauses 𝓛 𝓶 run) to_set_out v (λ r. r ≡ set_out_of w) (λ r _. id⊢ 𝓤 _) (λ r e is. let is_none : r ≡ round 0 = e ∙ sym (round_none w (set_out_of w) ys) in drop ! $ drop ! $
+          use1 𝓛 (later (some (λ (r : Round). (‵ ftrue ⊛ ‵ (RR.own r (v ∷ []))) ⊛ raw (ensured 𝓛 set_out.ended (set_out.clauses 𝓛 𝓶 run) tt (w, tt) tt r)))) (id⊢ 𝓤 _) $ await ! tt $ pick ! (λ r.
+          split ! $ move ! (1 ∷ []) $ use1 𝓛 (raw (fact 𝓤 (r ≡ set_out_of w))) (said_set_out r) $ heard ! (r ≡ set_out_of w) (λ e. split ! $ drop ! $
+          peeks ! RR (Is RR) (shows 𝓛 RR) r (v ∷ []) (λ is. let is_none : r ≡ round 0 = e ∙ sym (round_none w (set_out_of w) ys) in drop ! $
           land ! (from ! (stop !)) (init ! 20 refl ((LL.lawful TR.the_type TR'.the_laws 𝓛).typed r _ is).0) $ rewrite ! 20 (λ (u : Val). ‵ (fat full_share TR'.mir l₄ 0 u)) (is_val TR.the_type TR'.the_laws r v is ∙ ap round_val is_none) refl $
           assigns ! (of_opd ! (lit ! tt)) (from ! (stop !)) (init ! 18 refl (tt, record { fits = lit< tt })) $
           rewrite ! 0 (λ (zs : List Controller). ‵ (row R full_share zs b o)) (sym (records_none w (set_out_of w) ys)) refl $
-          first ! $ blocks ! $ loops ! 𝓣 Nearer NearerWf At turns (0, (zero-le, by_val TR.the_type TR'.the_laws r (round 0) v is is_none))))
+          first ! $ blocks ! $ loops ! 𝓣 Nearer NearerWf At turns (0, (zero-le, by_val TR.the_type TR'.the_laws r (round 0) v is is_none))))))
 
     walk : ent 𝓤 (on_entry 𝓛 f.signature (κ, tt) (q, tt) a at) (WpFn 𝓤 H C Λ code.function (s ∷ errand_val w ∷ []) Post)
     walk =
@@ -292,9 +305,11 @@ module _ {M : Type 1} {𝓤 : Ura M} (𝓛 : Logic 𝓤) (𝓶 : Memory → SPro
         assigns ! (of_opd ! (load ! (from ! (fld ! refl (stop !))) (look_in ! 26 (sub ! 1 refl (whole !))))) (from ! (stop !)) (init ! 14 refl (tt, record { fits = room.0 })) $
         nothing ! $ use1 𝓛 (raw ((Places 𝓛 𝓶 run).pre to_places)) asks_places $
         calls_at ! (fm_of 𝓤 H 𝓛.laws 𝓣) (Places 𝓛 𝓶 run) known-places to_places (and_then ! (load ! (from ! (stop !)) (look ! 25 refl)) (and_then ! (load ! (from ! (stop !)) (look ! 15 refl)) (no_more !))) (λ v.
-        hears ! tt places_of.ended (places_of.clauses 𝓛 𝓶 run) to_places v (λ r. r ≡ places) (λ r _. id⊢ 𝓤 _) (λ r e is. drop ! $ drop ! $
+        use1 𝓛 (later (some (λ (r : ℕ). (‵ ftrue ⊛ ‵ (usize.own_val r (v ∷ []))) ⊛ raw (ensured 𝓛 places_of.ended (places_of.clauses 𝓛 𝓶 run) tt (w, (n, tt)) tt r)))) (id⊢ 𝓤 _) $ await ! tt $ pick ! (λ r.
+        split ! $ move ! (1 ∷ []) $ use1 𝓛 (raw (fact 𝓤 (r ≡ places))) (said_places r) $ heard ! (r ≡ places) (λ e. split ! $ drop ! $
+        peeks ! usize (Is usize) (shows 𝓛 usize) r (v ∷ []) (λ is. drop ! $
         land ! (from ! (stop !)) (init ! 22 refl ((uint_Lawful 𝓛 w64).typed r _ is).0) $ rewrite ! 22 (λ (u : Val). ‵ (fat full_share (ty_int w64) l₃ 0 u)) (ap only is.0 ∙ ap (vint w64) e) refl $
-        begins l₀ l₁ l₂ l₃ l₄ l₅ l₆ l₇ l₈ l₉ l₁₀ l₁₁ l₁₂)))))))))))))))
+        begins l₀ l₁ l₂ l₃ l₄ l₅ l₆ l₇ l₈ l₉ l₁₀ l₁₁ l₁₂)))))))))))))))))
 
 module _ {M : Type 1} {𝓤 : Ura M} (𝓛 : Logic 𝓤) (𝓶 : Memory → SProp 𝓤) (run : Routine → Fun 𝓤) (𝓣 : Tables 𝓤 𝓛.H) (known-places : Triple 𝓤 (𝓣.C #places) (Places 𝓛 𝓶 run)) (known-set-out : Triple 𝓤 (𝓣.C #set_out) (SetOut 𝓛 𝓶 run)) (known-passed : Triple 𝓤 (𝓣.C #passed) (Passes 𝓛 𝓶 run)) where
   open 𝓛 use {H}

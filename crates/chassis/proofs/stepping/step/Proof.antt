@@ -9,7 +9,7 @@ use seplogic.Ra.Ura.{Ura}
 use seplogic.Ra.TreeShare.{full_share}
 use package.mir.Syntax.{Ty, named, erased, imm, mut, w16, w64, ty_int, ty_ref}
 use package.mir.Val.{Val, vint, vptr}
-use base.Logic.{SProp, ent, sep, emp, via, fst∗, id⊢}
+use base.Logic.{SProp, ent, sep, emp, via, fst∗, snd∗, ex_e, id⊢}
 use base.Fml.{Lft, Share, GName, ftrue, fat, froom, fdies, flft, fobs, fauth, fbor, fobor, flent}
 use prog.Memory.{Memory}
 use prog.Routine.{Routine}
@@ -54,7 +54,6 @@ use Rattle.chassis.specs.declared.Errand.{Errand}
 use Rattle.chassis.specs.declared.Round.{Round}
 use Rattle.chassis.specs.declared.Seen.{Seen}
 use Rattle.chassis.specs.declared.Told.{Told}
-use Rattle.chassis.proofs.Lending.{hears}
 use Rattle.chassis.proofs.Looked.{judged_seen}
 use Rattle.chassis.proofs.Rounds.{passed_records, passed_told}
 use Rattle.chassis.proofs.Plain.{R, is_val, by_val}
@@ -166,7 +165,7 @@ module _ {M : Type 1} {𝓤 : Ura M} (𝓛 : Logic 𝓤) (𝓶 : Memory → SPro
   abbrev errand : Errand
   errand = errand_of ys k w
 
-  -- What each callee's triple binds outside, and what it asks.
+  -- What each callee's triple binds outside, what it asks, and of what it ensures the clause alone.
   abbrev to_look : ℕ → GName → (Looks 𝓛 𝓶 run).Ghost
   to_look ν δ = (((ν ∷ [], tt), (full_share, tt), tt, (x δ ys, tt), (s ∷ [], tt)), tt)
 
@@ -174,6 +173,9 @@ module _ {M : Type 1} {𝓤 : Ura M} (𝓛 : Logic 𝓤) (𝓶 : Memory → SPro
   asks_look ν δ =
       qed 𝓛 (‵ (flft (ν ∷ []) full_share) ∷ ‵ ((ShrSlice (named 0) (ν ∷ []) R).own_val (x δ ys) (s ∷ [])) ∷ []) ∵ nothing ! $ move ! (1 ∷ 0 ∷ []) $ join ! $
       move ! (1 ∷ []) $ nothing ! $ move ! (1 ∷ 0 ∷ []) $ fjoin ! $ move ! (1 ∷ 0 ∷ []) $ join ! $ frame ! $ done !
+
+  said_look : (ν : ℕ) (δ : GName) (r : Seen) → ent 𝓤 (ensured 𝓛 looked.ended (looked.clauses 𝓛 𝓶 run) (ν ∷ [], tt) (x δ ys, tt) tt r) (fact 𝓤 (r ≡ seen))
+  said_look ν δ r = ex_e 𝓤 _ (λ ws. snd∗ 𝓤 (sem 𝓛 (lasts looked.ended (ν ∷ [], tt) (x δ ys, tt) ws)) (fact 𝓤 (r ≡ seen)))
 
   abbrev to_errand : (Judges 𝓛 𝓶 run).Ghost
   to_errand = ((tt, tt, tt, (seen, (n, (k, (w, tt)))), (seen_val seen ∷ [], (vint w64 n ∷ [], (vint w64 k ∷ [], (vint w16 w ∷ [], tt))))), tt)
@@ -185,6 +187,9 @@ module _ {M : Type 1} {𝓤 : Ura M} (𝓛 : Logic 𝓤) (𝓶 : Memory → SPro
 
   abbrev judged_as : Errand
   judged_as = record { verdict = judged n seen.standings k w; named = k; word = w }
+
+  said_errand : (r : Errand) → ent 𝓤 (ensured 𝓛 judging.ended (judging.clauses 𝓛 𝓶 run) tt (seen, (n, (k, (w, tt)))) tt r) (fact 𝓤 (r ≡ judged_as))
+  said_errand r = ex_e 𝓤 _ (λ ws. snd∗ 𝓤 (sem 𝓛 (lasts judging.ended tt (seen, (n, (k, (w, tt)))) ws)) (fact 𝓤 (r ≡ judged_as)))
 
   as_errand : judged_as ≡ errand
   as_errand = rw (judged_seen ys k w)
@@ -205,6 +210,9 @@ module _ {M : Type 1} {𝓤 : Ura M} (𝓛 : Logic 𝓤) (𝓶 : Memory → SPro
   asks_told is y is_y =
       qed 𝓛 (‵ ftrue ∷ []) ∵ owned ! RR (Is RR) (LL.makes TR.the_type TR'.the_plain 𝓛) y _ is_y $ fjoin ! $
       owned ! RE (Is RE) (LL.makes TE.the_type TE'.the_plain 𝓛) errand _ is $ fjoin ! $ nothing ! $ join ! $ frame ! $ done !
+
+  said_told : (y : Round) (r : Told) → ent 𝓤 (ensured 𝓛 telling.ended (telling.clauses 𝓛 𝓶 run) tt (errand, (y, tt)) tt r) (fact 𝓤 (r ≡ told_after errand.verdict y))
+  said_told y r = ex_e 𝓤 _ (λ ws. snd∗ 𝓤 (sem 𝓛 (lasts telling.ended tt (errand, (y, tt)) ws)) (fact 𝓤 (r ≡ told_after errand.verdict y)))
 
   -- The round's answer and its records are the rule's.
   called : (zs : List Controller) (y : Round) (r : Told) → PassedAll errand ys zs y → r ≡ told_after errand.verdict y → Called ys k w zs r
@@ -259,14 +267,16 @@ module _ {M : Type 1} {𝓤 : Ura M} (𝓛 : Logic 𝓤) (𝓶 : Memory → SPro
       tells zs same y is-e is_y p =
           nothing ! $ use1 𝓛 (raw ((Tells 𝓛 𝓶 run).pre (to_told y))) (asks_told is-e y is_y) $
           calls_at ! (fm_of 𝓤 H 𝓛.laws 𝓣) (Tells 𝓛 𝓶 run) known-told (to_told y) (and_then ! (load ! (from ! (stop !)) (look ! 17 refl)) (and_then ! (load ! (from ! (stop !)) (look ! 15 refl)) (no_more !))) (λ v.
-          hears ! tt telling.ended (telling.clauses 𝓛 𝓶 run) (to_told y) v (λ r. r ≡ told_after errand.verdict y) (λ r _. id⊢ 𝓤 _) (λ r e is. drop ! $ drop ! $
+          use1 𝓛 (later (some (λ (r : Told). (‵ ftrue ⊛ ‵ (RT.own r (v ∷ []))) ⊛ raw (ensured 𝓛 telling.ended (telling.clauses 𝓛 𝓶 run) tt (errand, (y, tt)) tt r)))) (id⊢ 𝓤 _) $ await ! tt $ pick ! (λ r.
+          split ! $ move ! (1 ∷ []) $ use1 𝓛 (raw (fact 𝓤 (r ≡ told_after errand.verdict y))) (said_told y r) $ heard ! (r ≡ told_after errand.verdict y) (λ e. split ! $ drop ! $
+          peeks ! RT (Is RT) (shows 𝓛 RT) r (v ∷ []) (λ is. drop ! $
           land ! (from ! (stop !)) (init ! 26 refl ((LL.lawful TT.the_type TT'.the_laws 𝓛).typed r _ is).0) $ rewrite ! 26 (λ (u : Val). ‵ (fat full_share TT'.mir l₀ 0 u)) (is_val TT.the_type TT'.the_laws r v is) refl $
           closes_slice ! tt R ys zs same b o $
           -- [obs; the borrow; the token; the locals]
           returns ! (look ! 25 refl) $ forget ! 3 refl $ forget ! 5 refl $ forget ! 7 refl $ forget ! 9 refl $ forget ! 11 refl $ forget ! 13 refl $ forget ! 15 refl $ forget ! 17 refl $ forget ! 19 refl $ forget ! 21 refl $ forget ! 23 refl $ forget ! 25 refl $
           move ! (25 ∷ 26 ∷ []) $ free1 ! $ move ! (23 ∷ 24 ∷ []) $ free1 ! $ move ! (21 ∷ 22 ∷ []) $ free1 ! $ move ! (19 ∷ 20 ∷ []) $ free1 ! $ move ! (17 ∷ 18 ∷ []) $ free1 ! $ move ! (15 ∷ 16 ∷ []) $ free1 ! $
           move ! (13 ∷ 14 ∷ []) $ free1 ! $ move ! (11 ∷ 12 ∷ []) $ free1 ! $ move ! (9 ∷ 10 ∷ []) $ free1 ! $ move ! (7 ∷ 8 ∷ []) $ free1 ! $ move ! (5 ∷ 6 ∷ []) $ free1 ! $ move ! (3 ∷ 4 ∷ []) $ free1 ! $ free0 ! $
-          by ! (exits zs r same (by_val TT.the_type TT'.the_laws r r v is refl) (called zs y r p e))))
+          by ! (exits zs r same (by_val TT.the_type TT'.the_laws r r v is refl) (called zs y r p e))))))
 
       passes : Is RE errand (errand_val errand ∷ []) → Sq 𝓛 (Open ys (‵ (froom (slice_ty ref) l₁₁ 0) ∷ ‵ (fdies (slice_ty ref) l₁₁) ∷ ‵ (froom ref l₁₀ 0) ∷ ‵ (fdies ref l₁₀) ∷ Judged)) (runs C Λ E mir.t-6 (at_ret E Post))
       passes is-e =
@@ -294,9 +304,11 @@ module _ {M : Type 1} {𝓤 : Ura M} (𝓛 : Logic 𝓤) (𝓶 : Memory → SPro
           nothing ! $ use1 𝓛 (raw ((Judges 𝓛 𝓶 run).pre to_errand)) (asks_errand is-s) $
           calls_at ! (fm_of 𝓤 H 𝓛.laws 𝓣) (Judges 𝓛 𝓶 run) known-errand to_errand
           (and_then ! (load ! (from ! (stop !)) (look ! 19 refl)) (and_then ! (load ! (from ! (stop !)) (look ! 9 refl)) (and_then ! (load ! (from ! (stop !)) (look ! 23 refl)) (and_then ! (load ! (from ! (stop !)) (look ! 21 refl)) (no_more !))))) (λ v.
-          hears ! tt judging.ended (judging.clauses 𝓛 𝓶 run) to_errand v (λ r. r ≡ judged_as) (λ r _. id⊢ 𝓤 _) (λ r e is. drop ! $ drop ! $
+          use1 𝓛 (later (some (λ (r : Errand). (‵ ftrue ⊛ ‵ (RE.own r (v ∷ []))) ⊛ raw (ensured 𝓛 judging.ended (judging.clauses 𝓛 𝓶 run) tt (seen, (n, (k, (w, tt)))) tt r)))) (id⊢ 𝓤 _) $ await ! tt $ pick ! (λ r.
+          split ! $ move ! (1 ∷ []) $ use1 𝓛 (raw (fact 𝓤 (r ≡ judged_as))) (said_errand r) $ heard ! (r ≡ judged_as) (λ e. split ! $ drop ! $
+          peeks ! RE (Is RE) (shows 𝓛 RE) r (v ∷ []) (λ is. drop ! $
           land ! (from ! (stop !)) (init ! 16 refl ((LL.lawful TE.the_type TE'.the_laws 𝓛).typed r _ is).0) $ rewrite ! 16 (λ (u : Val). ‵ (fat full_share TE'.mir l₅ 0 u)) (is_val TE.the_type TE'.the_laws r v is ∙ ap errand_val (e ∙ as_errand)) refl $
-          passes (by_val TE.the_type TE'.the_laws r errand v is (e ∙ as_errand))))
+          passes (by_val TE.the_type TE'.the_laws r errand v is (e ∙ as_errand))))))
 
     walk : ent 𝓤 (on_entry 𝓛 f.signature (κ, tt) (q, tt) a at) (WpFn 𝓤 H C Λ code.function (s ∷ vint w64 k ∷ vint w16 w ∷ []) Post)
     walk =
@@ -313,12 +325,14 @@ module _ {M : Type 1} {𝓤 : Ura M} (𝓛 : Logic 𝓤) (𝓶 : Memory → SPro
         use1 𝓛 (later (some (λ (δ : GName). ‵ ((ShrSlice (named 0) (ν ∷ []) R).own_val (x δ ys) (s ∷ [])) ⊛ ‵ (flent (ν ∷ []) ((arr_parts (shares R) n).part full_share ys b o))))) (lends_shr_slice 𝓛 R (named 0) (ν ∷ []) full_share ys b o room) $ await ! tt $ pick ! (λ δ. split ! $
         move ! (2 ∷ 0 ∷ []) $ use2 𝓛 (raw ((Looks 𝓛 𝓶 run).pre (to_look ν δ))) (asks_look ν δ) $
         calls_at ! (fm_of 𝓤 H 𝓛.laws 𝓣) (Looks 𝓛 𝓶 run) known_look (to_look ν δ) (and_then ! (load ! (from ! (stop !)) (look ! 11 refl)) (no_more !)) (λ v.
-        hears ! tt looked.ended (looked.clauses 𝓛 𝓶 run) (to_look ν δ) v (λ r. r ≡ seen) (λ r _. id⊢ 𝓤 _) (λ r e is. drop ! $ use1 𝓛 (‵ (flft (ν ∷ []) full_share) ⊛ ‵ ftrue) (id⊢ 𝓤 _) $
+        use1 𝓛 (later (some (λ (r : Seen). ((‵ (flft (ν ∷ []) full_share) ⊛ ‵ ftrue) ⊛ ‵ (RS.own r (v ∷ []))) ⊛ raw (ensured 𝓛 looked.ended (looked.clauses 𝓛 𝓶 run) (ν ∷ [], tt) (x δ ys, tt) tt r)))) (id⊢ 𝓤 _) $ await ! tt $ pick ! (λ r.
+        split ! $ move ! (1 ∷ []) $ use1 𝓛 (raw (fact 𝓤 (r ≡ seen))) (said_look ν δ r) $ heard ! (r ≡ seen) (λ e. split ! $ move ! (1 ∷ []) $
+        peeks ! RS (Is RS) (shows 𝓛 RS) r (v ∷ []) (λ is. drop ! $
         -- [the token and nothing; the lender's part; the open borrow; obs; auth; the locals]
         land ! (from ! (stop !)) (init ! 19 refl ((LL.lawful TS.the_type TS'.the_laws 𝓛).typed r _ is).0) $ rewrite ! 19 (λ (u : Val). ‵ (fat full_share TS'.mir l₄ 0 u)) (is_val TS.the_type TS'.the_laws r v is ∙ ap seen_val e) refl $
         -- and come back as they were
         split ! $ lft_end ! tt $ move ! (0 ∷ 2 ∷ []) $ lent_back ! tt $ fsplit ! $ drop ! $ move ! (1 ∷ []) $ drop ! $
-        judges l₀ l₁ l₂ l₃ l₄ l₅ l₆ l₇ l₈ l₉ l₁₀ l₁₁ (by_val TS.the_type TS'.the_laws r seen v is e)))))))))))))))))
+        judges l₀ l₁ l₂ l₃ l₄ l₅ l₆ l₇ l₈ l₉ l₁₀ l₁₁ (by_val TS.the_type TS'.the_laws r seen v is e)))))))))))))))))))
 
 module _ {M : Type 1} {𝓤 : Ura M} (𝓛 : Logic 𝓤) (𝓶 : Memory → SProp 𝓤) (run : Routine → Fun 𝓤) (𝓣 : Tables 𝓤 𝓛.H) (known_look : Triple 𝓤 (𝓣.C #look) (Looks 𝓛 𝓶 run)) (known-errand : Triple 𝓤 (𝓣.C #errand) (Judges 𝓛 𝓶 run)) (known-pass : Triple 𝓤 (𝓣.C #pass) (Passes 𝓛 𝓶 run)) (known-told : Triple 𝓤 (𝓣.C #told) (Tells 𝓛 𝓶 run)) where
   open 𝓛 use {H}

@@ -85,10 +85,6 @@ returns-20 : tie.Need-returns-20
 unfolding order_line
 returns-20 c = c.given15.ensures ∙ rw (c.before.before.enum-told20.given.1, c.before.small2.ensures)
 
-returns-21 : tie.Need-returns-21
-unfolding order_line
-returns-21 c = c.given16.ensures ∙ rw c.before.enum-told21.given.1
-
 pub order_spec : {M : Type 1} → statement M
 order_spec =
     tie.close
@@ -138,8 +134,6 @@ order_spec =
     (λ c. search rules)
     (λ c κs. search rules)
     (λ c κs. search rules)
-    (λ c. search rules)
-    (λ c κs. search rules)
     returns
     returns-2
     returns-3
@@ -159,5 +153,4 @@ order_spec =
     returns-17
     returns-18
     returns-19
-    returns-20
-    returns-21)
+    returns-20)

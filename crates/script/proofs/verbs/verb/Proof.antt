@@ -112,14 +112,9 @@ returns-26 c = rw c.match.keys26
 
 returns-27 : tie.Need-returns-27
 unfolding verb_of verbs name spelled
-returns-27 c = rw c.match.keys27
-
-returns-28 : tie.Need-returns-28
-unfolding verb_of verbs name spelled
-returns-28 c =
+returns-27 c =
     let r = c.match.rest in
     rw (
-      ne_eqb _ _ r.0.0.0.0.0.0.0.0.0.0.0.0.0.0.0.0.0.0.0.0.0.0.0.0.0.0.1,
       ne_eqb _ _ r.0.0.0.0.0.0.0.0.0.0.0.0.0.0.0.0.0.0.0.0.0.0.0.0.0.1,
       ne_eqb _ _ r.0.0.0.0.0.0.0.0.0.0.0.0.0.0.0.0.0.0.0.0.0.0.0.0.1,
       ne_eqb _ _ r.0.0.0.0.0.0.0.0.0.0.0.0.0.0.0.0.0.0.0.0.0.0.0.1,
@@ -178,5 +173,4 @@ verb_spec =
     returns-24
     returns-25
     returns-26
-    returns-27
-    returns-28)
+    returns-27)

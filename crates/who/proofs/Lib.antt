@@ -1,5 +1,0 @@
-pub mod First
-pub mod Asked
-pub mod ByValue
-pub mod Theorems
-pub mod Determined
