@@ -137,7 +137,7 @@ impl Machine {
         }
     }
 
-    #[tactic(auto, unfolding(crate::specs::Registers::bstr_write))]
+    #[tactic(auto, using(crate::proofs::Bays::meant), unfolding(crate::specs::Registers::bstr_write))]
     pub(crate) fn with_bstr(self, i: u8, value: u8) -> Machine
         ensures { result ≡ bstr_write i value self }
     {
@@ -164,7 +164,7 @@ impl Machine {
         }
     }
 
-    #[tactic(auto, unfolding(crate::specs::Registers::bcer_write))]
+    #[tactic(auto, using(crate::proofs::Bays::meant), unfolding(crate::specs::Registers::bcer_write))]
     pub(crate) fn with_bcer(self, i: u8, value: u8) -> Machine
         ensures { result ≡ bcer_write i value self }
     {
