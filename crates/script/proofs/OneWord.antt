@@ -7,8 +7,7 @@ use mathlib.Core.List.{List, [], ◌∷◌, ◌++◌}
 use lib.ListN.{length}
 use lib.Seq.{take-length, drop-length}
 use borrow.Author.Tests.{ne_eqb, lt-leb}
-use Rattle.bytes.specs.Bytes.{index_of}
-use Rattle.script.specs.Text.{characters, blank, leading, trimmed, first, rest, spelled, spelled64}
+use Rattle.script.specs.Text.{characters, blank, leading, trimmed, first, rest, spelled, spelled64, index_of}
 use Rattle.script.specs.Verbs.{name, verbs, verb_of}
 use Rattle.script.specs.Lines.{given, order_line, verb_line, plain, argument_of, text_line, line_of}
 use Rattle.script.specs.declared.Verb.TheVariants as verb

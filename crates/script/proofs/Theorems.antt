@@ -8,10 +8,9 @@ use lib.Dec.{ltb, leb}
 use lib.ListN.{take, drop}
 use borrow.Author.Tests.{ltb-true, ltb-false, leb-false, le-leb, lt-leb}
 use denote.Ref.{Bor}
-use Rattle.bytes.specs.Bytes.{index_of}
 use Rattle.event.specs.Words.{unpacked}
 use Rattle.hexes.specs.Digit.{digit_for}
-use Rattle.script.specs.Text.{characters, blank, leading, trimmed, first, rest, spelled, spelled64}
+use Rattle.script.specs.Text.{characters, blank, leading, trimmed, first, rest, spelled, spelled64, index_of}
 use Rattle.script.specs.Verbs.{name, verbs, verb_of}
 use Rattle.script.specs.Arguments.{digit_of, is_octet, octet_of, word_of, pair_of, count_from, count_of, ticks_of, is_small, small_of, further_of, follows_at, all_further, further_values}
 use Rattle.script.specs.Hands.{only, bay_of, kind_of, pulls, raises, insert_line, hand_line}

@@ -1,12 +1,11 @@
 -- What a line means: a verb, what it takes, and a comment after `#`.
 use Rattle.std.specs.Prelude.{ℕ, ◌+◌, ◌*◌, ◌-◌, ◌/◌, ◌%◌, Bool, cond, not, ◌&&◌, ◌||◌, List, length, take, eqb, ltb, leb}
 use Prim.Native.Char.{code}
-use Rattle.bytes.specs.Bytes.{index_of}
 use Rattle.event.specs.Words.{unpacked, is_reset}
 use Rattle.event.specs.declared.Event.TheVariants as event
 use Rattle.event.specs.declared.Unpacked.{Unpacked}
 use Rattle.event.specs.declared.Unpacked.TheVariants.{Accepted, StrayBit}
-use Rattle.script.specs.Text.{trimmed, first, rest, spelled64}
+use Rattle.script.specs.Text.{trimmed, first, rest, spelled64, index_of}
 use Rattle.script.specs.Verbs.{name, verb_of}
 use Rattle.script.specs.Arguments.{octet_of, word_of, pair_of, ticks_of, small_of, all_further}
 use Rattle.script.specs.Hands.{hand_line}

@@ -1,5 +1,5 @@
 -- Texts: characters by their numbers, blanks, words.
-use Rattle.std.specs.Prelude.{ℕ, suc, ◌+◌, ◌*◌, ◌^◌, Bool, true, false, cond, List, [], ◌∷◌, take, drop, leb, ltb}
+use Rattle.std.specs.Prelude.{ℕ, suc, ◌+◌, ◌*◌, ◌^◌, Bool, true, false, cond, List, [], ◌∷◌, take, drop, eqb, leb, ltb}
 use Prim.Native.Char.{code}
 use Prim.Native.String.{String, [] as «end», ◌∷◌ as ◌then◌}
 use Rattle.std.specs.Bool.{beq}
@@ -36,3 +36,8 @@ spelled (c ∷ cs) = spelled cs * 256 + c
 -- .. in 64 bits, or 0 where it has more.
 unfoldable pub spelled64 : List ℕ → ℕ
 spelled64 w = cond (ltb (spelled w) (2 ^ 64)) (spelled w) 0
+
+-- Where a character first stands in a text, and the text's length where it doesn't.
+unfoldable pub index_of : ℕ → List ℕ → ℕ
+index_of b [] = 0
+index_of b (c ∷ cs) = cond (eqb c b) 0 (suc (index_of b cs))

@@ -8,6 +8,7 @@ use crate::{Number, Octet, Pair};
 const MOST: u32 = 65535;
 
 // The value of a hex digit, in either case; 16 where it is none.
+#[tactic(auto, unfolding(crate::specs::Arguments::digit_of))]
 pub fn digit(c: u8) -> u8
     ensures value { result ≡ digit_of c }
     ensures upper_bound { result ≤ 16 }
@@ -25,6 +26,7 @@ pub fn digit(c: u8) -> u8
 }
 
 // Two hex digits.
+#[tactic(auto, unfolding(crate::specs::Arguments::octet_of, crate::specs::Arguments::is_octet))]
 pub(crate) fn octet(text: &[u8]) -> Octet
     ensures { result ≡ octet_of text.now }
 {
@@ -50,6 +52,7 @@ pub(crate) fn octet(text: &[u8]) -> Octet
 }
 
 // Four hex digits.
+#[tactic(auto, unfolding(crate::specs::Arguments::word_of))]
 pub fn word(text: &[u8]) -> Number
     ensures { result ≡ word_of text.now }
 {
@@ -68,6 +71,7 @@ pub fn word(text: &[u8]) -> Number
 }
 
 // Two bytes with a sign between them.
+#[tactic(auto, unfolding(crate::specs::Arguments::pair_of))]
 pub(crate) fn pair(sign: u8, text: &[u8]) -> Pair
     ensures { result ≡ pair_of sign text.now }
 {
@@ -88,6 +92,7 @@ pub(crate) fn pair(sign: u8, text: &[u8]) -> Pair
 }
 
 // Decimal digits, 65,535 at most.
+#[tactic(auto, using(crate::proofs::Passing::Counts, crate::proofs::Passing::counts_on, crate::proofs::Passing::counts_stop, crate::proofs::Passing::counts_end), unfolding(crate::specs::Arguments::count_of))]
 fn count(text: &[u8]) -> Number
     ensures { result ≡ count_of text.now }
 {
@@ -113,6 +118,7 @@ fn count(text: &[u8]) -> Number
 }
 
 // A count, or nothing for 1.
+#[tactic(auto, unfolding(crate::specs::Arguments::ticks_of))]
 pub(crate) fn ticks(text: &[u8]) -> Number
     ensures { result ≡ ticks_of text.now }
 {
@@ -126,6 +132,7 @@ pub(crate) fn ticks(text: &[u8]) -> Number
 }
 
 // A count that is a byte.
+#[tactic(auto, unfolding(crate::specs::Arguments::small_of, crate::specs::Arguments::is_small))]
 pub(crate) fn small(text: &[u8]) -> Octet
     ensures { result ≡ small_of text.now }
 {
@@ -144,6 +151,7 @@ pub(crate) fn small(text: &[u8]) -> Octet
 }
 
 // Value n of those that follow the first of a write: two hex digits after a comma.
+#[tactic(auto, using(crate::proofs::Further::no_further), unfolding(crate::specs::Arguments::further_of))]
 fn further(text: &[u8], n: u8) -> Octet
     ensures { result ≡ further_of text.now n }
 {
@@ -159,6 +167,7 @@ fn further(text: &[u8], n: u8) -> Octet
 }
 
 // The comma and the value are there.
+#[tactic(auto, using(crate::proofs::Further::none_follows), unfolding(crate::specs::Arguments::follows_at))]
 fn follows(text: &[u8], n: u8) -> bool
     ensures { result ≡ follows_at text.now n }
 {
@@ -170,6 +179,7 @@ fn follows(text: &[u8], n: u8) -> bool
 }
 
 // So many values follow.
+#[tactic(auto, unfolding(crate::specs::Arguments::all_further))]
 pub(crate) fn all_further(text: &[u8], more: u8) -> bool
     ensures { result ≡ all_further text.now more }
 {

@@ -16,6 +16,7 @@ const NREMREQ: u8 = 2;
 const NSL: u8 = 1;
 
 // The only word of a text, and nothing where it has more.
+#[tactic(auto, unfolding(crate::specs::Hands::only))]
 fn only_word(text: &[u8]) -> &[u8]
     ensures { result.now ≡ only text.now }
 {
@@ -27,6 +28,7 @@ fn only_word(text: &[u8]) -> &[u8]
 }
 
 // Where the four inputs of a bay begin in the levels; 0 where the text names no bay.
+#[tactic(auto, unfolding(crate::specs::Hands::bay_of, crate::specs::Verbs::name, crate::specs::Text::spelled))]
 fn bay(text: &[u8]) -> u8
     ensures value { result ≡ bay_of text.now }
     ensures upper_bound { result ≤ 16 }
@@ -39,6 +41,7 @@ fn bay(text: &[u8]) -> u8
 }
 
 // What is inserted, by the input that tells of it; 0 where the text is neither.
+#[tactic(auto, unfolding(crate::specs::Hands::kind_of, crate::specs::Verbs::name, crate::specs::Text::spelled))]
 fn kind(text: &[u8]) -> u8
     ensures value { result ≡ kind_of text.now }
     ensures upper_bound { result ≤ 8 }
@@ -51,6 +54,7 @@ fn kind(text: &[u8]) -> u8
 }
 
 // An order to pull inputs low, where there are any.
+#[tactic(auto, unfolding(crate::specs::Hands::pulls))]
 fn pulls(hand: Hand, inputs: u8) -> Line
     ensures { result ≡ pulls hand inputs }
 {
@@ -62,6 +66,7 @@ fn pulls(hand: Hand, inputs: u8) -> Line
 }
 
 // An order to raise inputs, where there are any.
+#[tactic(auto, unfolding(crate::specs::Hands::raises))]
 fn raises(hand: Hand, inputs: u8) -> Line
     ensures { result ≡ raises hand inputs }
 {
@@ -73,6 +78,7 @@ fn raises(hand: Hand, inputs: u8) -> Line
 }
 
 // A bay, and what is inserted there.
+#[tactic(auto, unfolding(crate::specs::Hands::insert_line))]
 fn insert(text: &[u8]) -> Line
     ensures { result ≡ insert_line text.now }
 {
@@ -82,6 +88,7 @@ fn insert(text: &[u8]) -> Line
 }
 
 // The hand's word and what follows it.
+#[tactic(auto, unfolding(crate::specs::Hands::hand_line))]
 pub(crate) fn at_bay(hand: Hand, text: &[u8]) -> Line
     ensures { result ≡ hand_line hand text.now }
 {

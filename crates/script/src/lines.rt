@@ -21,6 +21,7 @@ const MOST_WRITE: usize = PAIR + FURTHER * 255;
 const MOST_DOCKS: u8 = 4;
 
 // An order, where what follows its verb is what the verb takes.
+#[tactic(auto, unfolding(crate::specs::Lines::given))]
 fn given(verb: Verb, good: bool, order: Order) -> Line
     ensures { result ≡ given verb good order }
 {
@@ -32,6 +33,7 @@ fn given(verb: Verb, good: bool, order: Order) -> Line
 }
 
 // The word of a RESET.
+#[tactic(auto, unfolding(crate::specs::Lines::reset_line))]
 fn reset(text: &[u8]) -> Line
     ensures { result ≡ reset_line text.now }
 {
@@ -42,6 +44,7 @@ fn reset(text: &[u8]) -> Line
     given(Verb::Reset, n.good & event.is_reset(), Order::Event(event))
 }
 
+#[tactic(auto, unfolding(crate::specs::Lines::take_line, crate::specs::Verbs::name, crate::specs::Text::spelled))]
 fn take(text: &[u8]) -> Line
     ensures { result ≡ take_line text.now }
 {
@@ -55,6 +58,7 @@ fn take(text: &[u8]) -> Line
 }
 
 // A register, `=` and a value, and more values, each after a comma.
+#[tactic(auto, unfolding(crate::specs::Lines::write_line))]
 fn write(text: &[u8]) -> Line
     ensures { result ≡ write_line text.now }
 {
@@ -82,6 +86,7 @@ fn write(text: &[u8]) -> Line
 }
 
 // How many registers come after the first, up to the last; FFh is followed by 00h.
+#[tactic(auto, unfolding(crate::specs::Lines::span))]
 fn span(first: u8, last: u8) -> u8
     ensures { result ≡ span first last }
 {
@@ -89,6 +94,7 @@ fn span(first: u8, last: u8) -> u8
 }
 
 // A register, or the first and the last with `-` between them.
+#[tactic(auto, unfolding(crate::specs::Lines::read_line))]
 fn read(text: &[u8]) -> Line
     ensures { result ≡ read_line text.now }
 {
@@ -104,6 +110,7 @@ fn read(text: &[u8]) -> Line
 }
 
 // One to four docks.
+#[tactic(auto, unfolding(crate::specs::Lines::chassis_line))]
 fn chassis(text: &[u8]) -> Line
     ensures { result ≡ chassis_line text.now }
 {
@@ -117,6 +124,7 @@ fn chassis(text: &[u8]) -> Line
 }
 
 // A verb and the word after it, empty where there is none.
+#[tactic(auto, unfolding(crate::specs::Lines::order_line))]
 fn order(verb: Verb, text: &[u8]) -> Line
     ensures { result ≡ order_line verb text.now }
 {
@@ -162,11 +170,14 @@ fn order(verb: Verb, text: &[u8]) -> Line
 fn before_comment(line: &[u8]) -> &[u8]
     ensures { result.now ≡ plain line.now }
 {
-    let end = bytes::scan::find(line, 0, line.len(), b'#');
-    &line[..end]
+    match line.iter().position(|c| *c == b'#') {
+        Some(end) => &line[..end],
+        None => line,
+    }
 }
 
 // A verb and what follows it. No verb takes more than one word.
+#[tactic(auto, unfolding(crate::specs::Lines::verb_line))]
 fn with_verb(verb: Verb, text: &[u8]) -> Line
     ensures { result ≡ verb_line verb text.now }
 {
@@ -178,6 +189,7 @@ fn with_verb(verb: Verb, text: &[u8]) -> Line
 }
 
 // The word after the first of a line, empty where there is none.
+#[tactic(auto, unfolding(crate::specs::Lines::argument_of))]
 pub fn argument(line: &[u8]) -> &[u8]
     ensures { result.now ≡ argument_of line.now }
 {
@@ -185,6 +197,7 @@ pub fn argument(line: &[u8]) -> &[u8]
 }
 
 // What a line means.
+#[tactic(auto, unfolding(crate::specs::Lines::text_line, crate::specs::Lines::line_of))]
 pub fn meaning(line: &[u8]) -> Line
     ensures { result ≡ line_of line.now }
 {

@@ -6,6 +6,7 @@ ghost use Rattle.script.specs.Text.{blank, leading, trimmed, first, rest, spelle
 const ROOM: u64 = 0xFF_FFFF_FFFF_FFFF;
 
 // A space, a tab or another control character, as the one that some systems put at a line's end.
+#[tactic(auto, unfolding(crate::specs::Text::blank))]
 fn is_blank(c: u8) -> bool
     ensures { result ≡ blank c }
 {
@@ -13,6 +14,7 @@ fn is_blank(c: u8) -> bool
 }
 
 // How many characters in front are all blanks, or are none.
+#[tactic(auto, using(crate::proofs::Passing::Leads, crate::proofs::Passing::leads_on, crate::proofs::Passing::leads_stop, crate::proofs::Passing::leads_end))]
 fn count_leading(text: &[u8], blanks: bool) -> usize
     ensures value { result ≡ leading blanks text.now }
     ensures upper_bound { result ≤ length text.now }
@@ -29,6 +31,7 @@ fn count_leading(text: &[u8], blanks: bool) -> usize
 }
 
 // The text without the blanks in front.
+#[tactic(auto, unfolding(crate::specs::Text::trimmed))]
 pub(crate) fn trim(text: &[u8]) -> &[u8]
     ensures { result.now ≡ trimmed text.now }
 {
@@ -37,6 +40,7 @@ pub(crate) fn trim(text: &[u8]) -> &[u8]
 }
 
 // Its first word.
+#[tactic(auto, unfolding(crate::specs::Text::first))]
 pub(crate) fn first_word(text: &[u8]) -> &[u8]
     ensures { result.now ≡ first text.now }
 {
@@ -46,6 +50,7 @@ pub(crate) fn first_word(text: &[u8]) -> &[u8]
 }
 
 // What follows its first word.
+#[tactic(auto, unfolding(crate::specs::Text::rest))]
 pub(crate) fn after_first(text: &[u8]) -> &[u8]
     ensures { result.now ≡ rest text.now }
 {
@@ -62,6 +67,7 @@ fn wide(c: u8) -> u64
 }
 
 // A word as a number, its characters as digits of base 256, the first the lowest; 0 where that has over 64 bits.
+#[tactic(auto, using(crate::proofs::Passing::Spells, crate::proofs::Passing::spells_none, crate::proofs::Passing::spells_on, crate::proofs::Passing::spells_stop, crate::proofs::Passing::spells_end))]
 pub(crate) fn spell(word: &[u8]) -> u64
     ensures { result ≡ spelled64 word.now }
 {

@@ -69,6 +69,7 @@ pub(crate) const OF_1394: u64 = 0x34_39_33_31;
 
 pub(crate) const USB: u64 = 0x62_73_75;
 
+#[tactic(auto, unfolding(crate::specs::Verbs::verb_of, crate::specs::Verbs::verbs, crate::specs::Verbs::name, crate::specs::Text::spelled))]
 pub(crate) fn verb(name: u64) -> Named
     ensures { result ≡ verb_of name }
 {
