@@ -45,6 +45,7 @@ fn fields(refusal: u8, reply: u8, byte: u8, outputs: u16) -> u32
 }
 
 // The record as one number.
+#[tactic(auto, unfolding(crate::specs::Record::record_number))]
 fn record_number(answer: Answer) -> u32
     ensures { result ≡ record_number answer }
 {
@@ -57,6 +58,7 @@ fn record_number(answer: Answer) -> u32
 }
 
 // The record of an answer, most significant byte first.
+#[tactic(auto, unfolding(crate::specs::Record::record_of))]
 pub fn record(answer: Answer) -> [u8; 4]
     ensures { result ≡ record_of answer }
 {
@@ -70,6 +72,7 @@ pub fn record(answer: Answer) -> [u8; 4]
 }
 
 // A reply by its number and byte: any past 3 is that of a TAKE that isn't driven.
+#[tactic(auto, using(crate::proofs::Decode::reply_past))]
 fn reply_by(number: u8, byte: u8) -> Reply
     ensures { result ≡ reply_by number byte }
 {
@@ -83,6 +86,7 @@ fn reply_by(number: u8, byte: u8) -> Reply
 }
 
 // An answer by its numbers: any refusal past 2 is that of a controller that isn't started.
+#[tactic(auto, using(crate::proofs::Decode::answer_past))]
 fn answer_by(refusal: u8, reply: Reply, outputs: u16) -> Answer
     ensures { result ≡ answer_by refusal reply outputs }
 {
@@ -95,6 +99,7 @@ fn answer_by(refusal: u8, reply: Reply, outputs: u16) -> Answer
 }
 
 // The answer that a record's 32 bits tell.
+#[tactic(auto, unfolding(crate::specs::Decode::answer_in))]
 pub fn answer_in(number: u32) -> Answer
     ensures { result ≡ answer_in number }
 {
@@ -106,6 +111,7 @@ pub fn answer_in(number: u32) -> Answer
 }
 
 // Writes an answer's record into the four bytes lent.
+#[tactic(auto, using(crate::proofs::Records::four_written), unfolding(crate::specs::Record::record_of))]
 fn write_record(answer: Answer, place: &mut [u8])
     requires { length place.old ≡ 4 }
     ensures { place.new ≡ record_of answer }
@@ -118,6 +124,7 @@ fn write_record(answer: Answer, place: &mut [u8])
 }
 
 // Refusals 1, 5 and 4, in that order.
+#[tactic(auto, unfolding(crate::specs::Batch::outcome_of))]
 fn verdict(controller: Controller, words: &[u16], records: &[u8]) -> Outcome
     ensures { result ≡ outcome_of controller (length words.now) (length records.now) }
 {
@@ -134,6 +141,7 @@ fn verdict(controller: Controller, words: &[u16], records: &[u8]) -> Outcome
 }
 
 // The words one after the other, each with its record at its own place. Each leaves the state fit, so it isn't asked again.
+#[tactic(auto, using(crate::proofs::Loop::Going, crate::proofs::Loop::none_gone, crate::proofs::Loop::goes_on, crate::proofs::Loop::length_kept, crate::proofs::Loop::all_taken))]
 fn run(controller: Controller, words: &[u16], records: &mut [u8]) -> Controller
     requires machine_value { fits controller.machine ≡ true }
     requires words_in_bounds { 4 * length words.now ≤ length records.old }
@@ -156,6 +164,7 @@ fn run(controller: Controller, words: &[u16], records: &mut [u8]) -> Controller
 }
 
 // The batch call. A word refused with 2 or 3 gets its record and the batch goes on.
+#[tactic(auto, using(bus::proofs::Cases::found, crate::proofs::Accepted::has_room, crate::proofs::Accepted::as_it_came), unfolding(crate::specs::Batch::batch_of, crate::specs::Batch::buffer_after))]
 pub fn batch(controller: Controller, words: &[u16], records: &mut [u8]) -> Batched
     ensures value { result ≡ batch_of controller words.now (length records.old) }
     ensures records_after { records.new ≡ buffer_after controller words.now records.old }

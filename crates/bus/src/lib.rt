@@ -71,6 +71,7 @@ pub enum Reply {
 }
 
 // The own address byte for writing: 90h + 2 x SMB_A.
+#[tactic(auto, unfolding(crate::specs::Progress::own_write_byte))]
 pub fn own_write(straps: u8) -> u8
     ensures { result ≡ own_write_byte straps }
 {
@@ -78,6 +79,7 @@ pub fn own_write(straps: u8) -> u8
 }
 
 // One more for reading.
+#[tactic(auto, unfolding(crate::specs::Progress::own_write_byte, crate::specs::Progress::own_read_byte))]
 pub fn own_read(straps: u8) -> u8
     ensures { result ≡ own_read_byte straps }
 {
@@ -85,6 +87,7 @@ pub fn own_read(straps: u8) -> u8
 }
 
 // The number rises within a transfer of the second kind: FFh to 00h.
+#[tactic(auto, unfolding(crate::specs::Progress::next_register))]
 pub fn next_register(register: u8) -> u8
     ensures { result ≡ next_register register }
 {
@@ -93,6 +96,7 @@ pub fn next_register(register: u8) -> u8
 
 impl Progress {
     // What a read holds for its TAKE.
+    #[tactic(auto, unfolding(crate::specs::Progress::holding))]
     pub fn holding(kind: Kind, register: u8, value: u8) -> Progress
         ensures { result ≡ holding kind register value }
     {
@@ -103,6 +107,7 @@ impl Progress {
     }
 
     // A progress of the other kind counts as none.
+    #[tactic(auto, unfolding(crate::specs::Progress::known_to))]
     pub fn known(self, kind: Kind) -> Progress
         ensures { result ≡ known_to kind self }
     {
@@ -119,6 +124,7 @@ impl Progress {
     }
 
     // A START opens a command when none is open; after a register byte it goes on to a read.
+    #[tactic(auto, unfolding(crate::specs::Progress::started, crate::specs::Progress::started_known))]
     pub fn start(self, kind: Kind) -> Progress
         ensures { result ≡ started kind self }
     {
@@ -133,6 +139,7 @@ impl Progress {
     }
 
     // A BYTE, to the controller of this kind with these straps.
+    #[tactic(auto, unfolding(crate::specs::Progress::heard, crate::specs::Progress::heard_known))]
     pub fn byte(self, kind: Kind, straps: u8, value: u8) -> Heard
         ensures { result ≡ heard kind straps value self }
     {
@@ -162,6 +169,7 @@ impl Progress {
     }
 
     // The byte that an open read holds for its next TAKE.
+    #[tactic(auto, unfolding(crate::specs::Progress::held_known, crate::specs::Progress::held_by))]
     pub fn held(self, kind: Kind) -> Holds
         ensures { result ≡ held_by kind self }
     {

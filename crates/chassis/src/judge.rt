@@ -43,6 +43,7 @@ pub(crate) fn names(event: Event) -> bool
 
 impl Seen {
     // A record isn't fit, or two clash: four places, six pairs.
+    #[tactic(auto, using(crate::proofs::Four::faulty_four))]
     fn faulty(self) -> bool
         requires { length self.standings ≡ 4 }
         ensures { result ≡ faulty self.standings }
@@ -59,6 +60,7 @@ impl Seen {
     }
 
     // Some record is started.
+    #[tactic(auto, using(crate::proofs::Four::some_four))]
     fn hears(self) -> bool
         requires { length self.standings ≡ 4 }
         ensures { result ≡ some started self.standings }
@@ -85,6 +87,7 @@ impl Seen {
     }
 
     // A started neighbour of the record named has this own address.
+    #[tactic(auto, using(crate::proofs::Four::neighbours_four))]
     fn is_taken(self, named: usize, address: u8) -> bool
         requires { length self.standings ≡ 4 }
         ensures { result ≡ some (has address) (neighbours named self.standings) }
@@ -98,6 +101,7 @@ impl Seen {
     }
 
     // Nobody takes the event up.
+    #[tactic(auto, using(bus::proofs::Cases::among, bus::proofs::Cases::found))]
     fn is_unheard(self, named: usize, event: Event) -> bool
         requires { length self.standings ≡ 4 }
         ensures { result ≡ unheard event named self.standings }
@@ -114,6 +118,7 @@ impl Seen {
     }
 
     // The RESET would give a started neighbour's own address.
+    #[tactic(auto, using(bus::proofs::Cases::among, bus::proofs::Cases::found))]
     fn is_address_taken(self, named: usize, event: Event) -> bool
         requires { length self.standings ≡ 4 }
         ensures { result ≡ address_taken event named self.standings }
@@ -146,6 +151,7 @@ impl Seen {
     }
 
     // What becomes of a word for a list of so many records.
+    #[tactic(auto, unfolding(crate::specs::Judge::judged, crate::specs::Judge::by_word))]
     fn verdict(self, records: usize, named: usize, word: u16) -> Verdict
         requires { length self.standings ≡ 4 }
         ensures { result ≡ judged records self.standings named word }

@@ -10,6 +10,7 @@ use dock::Controller;
 use event::Event;
 
 // The reply where none ACKs and none drives.
+#[tactic(auto, using(bus::proofs::Cases::among, bus::proofs::Cases::found))]
 fn unanswered(event: Event) -> Reply
     ensures { result ≡ unanswered event }
 {
@@ -21,6 +22,7 @@ fn unanswered(event: Event) -> Reply
 }
 
 // A second reply counts where it is an ACK or a driven byte.
+#[tactic(auto, using(bus::proofs::Cases::among, bus::proofs::Cases::found))]
 fn spoken(first: Reply, second: Reply) -> Reply
     ensures { result ≡ spoken first second }
 {
@@ -32,6 +34,7 @@ fn spoken(first: Reply, second: Reply) -> Reply
 }
 
 // .. and the first was neither.
+#[tactic(auto, using(bus::proofs::Cases::among, bus::proofs::Cases::found))]
 fn louder(first: Reply, second: Reply) -> Reply
     ensures { result ≡ louder first second }
 {
@@ -101,6 +104,7 @@ impl Errand {
     }
 
     // A record gets the event, or is left as it is.
+    #[tactic(auto, using(dock::proofs::Shown::shown_after), unfolding(crate::specs::Passing::passed_of, crate::specs::Passing::passed_by))]
     fn passed(self, round: Round, controller: Controller) -> Passed
         ensures { result ≡ passed_of self round controller }
     {
@@ -120,6 +124,7 @@ impl Errand {
     }
 }
 
+#[tactic(auto, using(crate::proofs::Loops::places_within, crate::proofs::Loops::records_none, crate::proofs::Loops::round_none, crate::proofs::Loops::records_length, crate::proofs::Loops::records_next, crate::proofs::Loops::round_next, crate::proofs::Turns::tests, crate::proofs::Turns::place_fits, crate::proofs::Turns::next_fits, crate::proofs::Turns::next_within, crate::proofs::Turns::nearer, crate::proofs::Plain::R, crate::proofs::Plain::vals, crate::proofs::Plain::is_val, crate::proofs::Plain::by_val))]
 pub(crate) fn pass(list: &mut [Controller], errand: Errand) -> Round
     ensures { PassedAll errand list.old list.new result }
 {

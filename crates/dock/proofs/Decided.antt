@@ -102,7 +102,7 @@ only_stop_writes s e =
       byte = λ b.
           at_byte_lem (λ m. m) s.machine (heard s.machine.kind s.machine.straps b s.progress)
           ∙ ap (λ k. at_byte (λ a. does a s.machine) s.machine (heard k s.machine.straps b s.progress)) e
-          ∙ first_byte _ _ s.machine.straps b s.progress;
+          ∙ first_byte (λ a. does a s.machine) s.machine s.machine.straps b s.progress;
       stop_early = λ n. ap (λ k. done (stop_deed k s.progress) s.machine) e ∙ first_stop s.machine s.progress n;
     }
 

@@ -33,6 +33,7 @@ fn start(kind: Kind, progress: Progress) -> Turn
 }
 
 // In the first kind the STOP after a data byte decides the write.
+#[tactic(auto, using(bus::proofs::Cases::among, bus::proofs::Cases::found), unfolding(crate::specs::Events::stop_deed))]
 fn stop(kind: Kind, progress: Progress) -> Turn
     ensures { result ≡ stop_at kind progress }
 {
@@ -43,6 +44,7 @@ fn stop(kind: Kind, progress: Progress) -> Turn
 }
 
 // The register's reading now is held for the next TAKE: a whole read.
+#[tactic(auto, unfolding(crate::specs::Events::read_at))]
 fn read(machine: Machine, register: u8, reply: Reply) -> Turn
     ensures { result ≡ read_at machine.kind (reading machine) register reply }
 {
@@ -55,6 +57,7 @@ fn read(machine: Machine, register: u8, reply: Reply) -> Turn
 }
 
 // A BYTE goes on with the command, decides a read or, in the second kind, a write, or ends the command.
+#[tactic(auto, unfolding(crate::specs::Events::byte_heard, crate::specs::Events::byte_at))]
 fn byte(machine: Machine, progress: Progress, byte: u8) -> Turn
     ensures { result ≡ byte_at machine progress byte }
 {
@@ -80,6 +83,7 @@ fn byte(machine: Machine, progress: Progress, byte: u8) -> Turn
 }
 
 // A TAKE gives the byte that is held. In the second kind one that the host ACKs reads the next register for the one after it.
+#[tactic(auto, using(bus::proofs::Cases::among, bus::proofs::Cases::found), unfolding(crate::specs::Events::take_known))]
 fn take(machine: Machine, progress: Progress, ack: bool) -> Turn
     ensures { result ≡ take_at machine ack progress }
 {
@@ -111,6 +115,7 @@ fn decided(progress: Progress, act: Act) -> Turn
 
 impl Controller {
     // What an event comes to. PINS and TICK are passed over by an open command; TIMEOUT and RESET end it.
+    #[tactic(auto, unfolding(crate::specs::Events::turn_of))]
     pub(crate) fn turn(self, event: Event) -> Turn
         ensures { result ≡ turn_of self event }
     {

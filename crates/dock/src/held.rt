@@ -32,6 +32,7 @@ impl HeldByte {
 
 impl Controller {
     // The byte that the next TAKE would drive. Before the first RESET no read is open, whatever the progress of a state.
+    #[tactic(auto, unfolding(crate::specs::Held::told_held, crate::specs::Held::held_fit))]
     pub fn held(self) -> HeldByte
         ensures { result ≡ told_held self }
     {

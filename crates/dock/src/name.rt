@@ -20,6 +20,7 @@ impl Naming {
 
 impl Controller {
     // 1 names the first kind and 2 the second, from the next RESET on.
+    #[tactic(auto, unfolding(crate::specs::Name::name_of, machine::specs::Acts::does))]
     pub fn name(self, number: u8) -> Renamed
         ensures { result ≡ name_of self number }
     {

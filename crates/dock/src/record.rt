@@ -9,6 +9,7 @@ use machine::Machine;
 
 impl Controller {
     // A controller before its first RESET.
+    #[tactic(auto, unfolding(crate::specs::Record::fresh_controller))]
     pub fn fresh() -> Controller
         ensures { result ≡ fresh_controller }
     {

@@ -8,6 +8,7 @@ use bus::Holds;
 
 impl Controller {
     // A read is open; before the first RESET none is, whatever the progress of a state.
+    #[tactic(auto, unfolding(crate::specs::Held::held_fit))]
     fn drives(self) -> bool
         ensures { result ≡ is_byte (held_fit self) }
     {
@@ -24,6 +25,7 @@ impl Controller {
     }
 
     // Asked of any state, fit or not, and changes nothing.
+    #[tactic(auto, unfolding(crate::specs::Shared::standing_of))]
     pub fn standing(self) -> Standing
         ensures { result ≡ standing_of self }
     {

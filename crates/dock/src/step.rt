@@ -38,6 +38,7 @@ impl Controller {
     }
 
     // The single call on a state that is fit and whose outputs are `shown`; on any other it goes by the same rules.
+    #[tactic(auto, using(crate::proofs::Goes::went_untaken, crate::proofs::Goes::went_stray, crate::proofs::Goes::went_taken), unfolding(crate::specs::Events::next, crate::specs::Step::outputs_after))]
     pub fn goes(self, shown: u16, word: u16) -> Went
         ensures { result ≡ went_of self shown word }
     {
@@ -64,6 +65,7 @@ impl Controller {
     }
 
     // The single call.
+    #[tactic(auto, using(crate::proofs::Goes::goes_as_step), unfolding(crate::specs::Step::step_of))]
     pub fn step(self, word: u16) -> Stepped
         ensures { result ≡ step_of self word }
     {
@@ -80,6 +82,7 @@ impl Controller {
     }
 
     // One register's reading, outside the bus.
+    #[tactic(auto, unfolding(crate::specs::Step::told_reading))]
     pub fn reading(self, address: u8) -> Told
         ensures { result ≡ told_reading self address }
     {
@@ -91,6 +94,7 @@ impl Controller {
     }
 
     // The nine outputs, outside the bus.
+    #[tactic(auto, unfolding(crate::specs::Step::told_outputs))]
     pub fn outputs(self) -> Told
         ensures { result ≡ told_outputs self }
     {

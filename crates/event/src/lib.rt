@@ -111,6 +111,7 @@ fn event_of(kind: u16, field: u16) -> Event
 }
 
 // The event of a word, unless a bit that must be 0 is set.
+#[tactic(auto, unfolding(crate::specs::Words::unpacked))]
 pub fn unpack(word: u16) -> Unpacked
     ensures { result ≡ unpacked word }
 {
@@ -146,6 +147,7 @@ fn reset_data(straps: u8, levels: u8, short_pulse: bool) -> u16
 }
 
 // The word of an event, unless its straps exceed 15.
+#[tactic(auto, unfolding(crate::specs::Words::packed, crate::specs::Words::word_of, crate::specs::Words::straps_of))]
 pub fn pack(event: Event) -> Packed
     ensures { result ≡ packed event }
 {

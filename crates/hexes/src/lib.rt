@@ -5,6 +5,7 @@ ghost use Rattle.std.specs.Prelude.{◌≡◌};
 ghost use Rattle.hexes.specs.Digit.{digit_for};
 
 // The character of the lowest hex digit of a number.
+#[tactic(auto, unfolding(crate::specs::Digit::digit_for))]
 pub fn digit(n: u16) -> u8
     ensures { result ≡ digit_for n }
 {

@@ -12,6 +12,7 @@ use machine::{Machine, Shared};
 use pairs::wide;
 use second::Second;
 
+#[tactic(auto, using(crate::proofs::Bytes::flag_at))]
 fn bay_from(flags: &[u8], numbers: &[u8]) -> Bay
     requires flags_len { length flags.now ≡ 14 }
     requires numbers_len { length numbers.now ≡ 9 }
@@ -51,6 +52,7 @@ fn bay_from(flags: &[u8], numbers: &[u8]) -> Bay
 }
 
 // The flags of the second kind's own registers, and their numbers, in the image's order.
+#[tactic(auto, using(crate::proofs::Bytes::flag_at))]
 fn second_from(flags: &[u8], numbers: &[u8]) -> Second
     requires flags_len { length flags.now ≡ 7 }
     requires numbers_len { length numbers.now ≡ 7 }
@@ -66,6 +68,7 @@ fn second_from(flags: &[u8], numbers: &[u8]) -> Second
     }
 }
 
+#[tactic(auto, using(crate::proofs::Bytes::machine_parts))]
 fn machine_in(image: &[u8]) -> Machine
     requires { length image.now ≡ BYTES }
     ensures { result ≡ machine_in image.now }
@@ -123,6 +126,7 @@ fn progress_from(which: u8, first: u8, second: u8) -> Progress
 }
 
 // No byte is above 1. It looks at all of them, which compiles to a few comparisons.
+#[tactic(auto, using(crate::proofs::Flags::all_next))]
 fn all_flags(flags: &[u8]) -> bool
     ensures { result ≡ all_flags flags.now }
 {
@@ -136,6 +140,7 @@ fn all_flags(flags: &[u8]) -> bool
 }
 
 // How many bytes come before the first above 1.
+#[tactic(auto, using(crate::proofs::Flags::Passed, crate::proofs::Flags::none_passed, crate::proofs::Flags::pass_next, crate::proofs::Flags::found, crate::proofs::Flags::all_passed))]
 fn first_over(flags: &[u8]) -> usize
     ensures value { result ≡ first_over flags.now }
     ensures bounded { result ≤ length flags.now }
@@ -151,6 +156,7 @@ fn first_over(flags: &[u8]) -> usize
 }
 
 // From a register byte on a command holds one byte; with a data byte, or sending, two.
+#[tactic(auto, unfolding(crate::specs::Load::progress_verdict))]
 fn progress_verdict(which: u8, first: u8, second: u8) -> Verdict
     ensures { result ≡ progress_verdict which first second }
 {
@@ -167,6 +173,7 @@ fn progress_verdict(which: u8, first: u8, second: u8) -> Verdict
 }
 
 // The verdict on as many bytes as an image has.
+#[tactic(auto, unfolding(crate::specs::Load::sized_verdict))]
 fn sized_verdict(image: &[u8]) -> Verdict
     requires { length image.now ≡ BYTES }
     ensures { result ≡ sized_verdict image.now }
@@ -185,6 +192,7 @@ fn sized_verdict(image: &[u8]) -> Verdict
     )
 }
 
+#[tactic(auto, using(bus::proofs::Cases::found, crate::proofs::Whole::not_whole), unfolding(crate::specs::Load::state_in))]
 fn load_sized(image: &[u8]) -> Loaded
     requires { length image.now ≡ BYTES }
     ensures { result ≡ load_sized image.now }
@@ -207,6 +215,7 @@ fn load_sized(image: &[u8]) -> Loaded
 }
 
 // The state of an image, fit or not.
+#[tactic(auto, unfolding(crate::specs::Load::load_of, crate::specs::Load::verdict_on))]
 pub fn load(image: &[u8]) -> Loaded
     ensures { result ≡ load_of image.now }
 {

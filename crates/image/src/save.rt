@@ -9,6 +9,7 @@ use dock::Controller;
 use pairs::two_bytes;
 
 // Which command in progress, and the bytes that it holds.
+#[tactic(auto, unfolding(crate::specs::Save::progress_bytes))]
 fn progress_bytes(progress: Progress) -> [u8; 3]
     ensures { result ≡ progress_bytes progress }
 {
@@ -26,6 +27,7 @@ fn progress_bytes(progress: Progress) -> [u8; 3]
 }
 
 // The image of a fresh controller: the levels are 1 and the rest 0.
+#[tactic(auto, unfolding(crate::specs::Save::saved, crate::specs::Save::progress_bytes, dock::specs::Record::fresh_controller, machine::specs::Record::fresh_machine, second::specs::Record::fresh, bay::specs::Record::empty_bay))]
 pub fn fresh() -> [u8; crate::BYTES]
     ensures { result ≡ saved fresh_controller }
 {
@@ -49,6 +51,7 @@ pub fn fresh() -> [u8; crate::BYTES]
 }
 
 // The image of a state, fit or not.
+#[tactic(auto, using(crate::proofs::Bytes::put_together))]
 pub fn save(controller: Controller) -> [u8; crate::BYTES]
     ensures { result ≡ saved controller }
 {

@@ -40,6 +40,7 @@ fn reset_first(straps: u8, short_pulse: bool) -> u16
 }
 
 // The two numbers of an event beside its kind.
+#[tactic(auto, using(image::proofs::Bytes::cast_flag), unfolding(crate::specs::Events::numbers_of))]
 fn numbers(event: Event) -> u32
     ensures { result ≡ numbers_of event }
 {
@@ -60,8 +61,8 @@ fn numbers(event: Event) -> u32
 }
 
 // The refusal and the two numbers of a word's event, whose kind is bits 15-13 of the word.
-#[unsafe(no_mangle)]
-pub extern "C" fn dock_unpack(word: u16) -> u32
+#[tactic(auto, unfolding(crate::specs::Events::unpacked_as))]
+pub fn dock_unpack(word: u16) -> u32
     ensures { result ≡ unpacked_as word }
 {
     match event::unpack(word) {
@@ -82,6 +83,7 @@ fn given(proper: bool, event: Event) -> Meant
 }
 
 // The event of a kind and its two numbers.
+#[tactic(auto, using(event::proofs::Rows::by_kind), unfolding(crate::specs::Events::meant_by))]
 fn event_by(kind: u8, first: u16, second: u8) -> Meant
     ensures { result ≡ meant_by kind first second }
 {
@@ -110,8 +112,8 @@ fn event_by(kind: u8, first: u16, second: u8) -> Meant
 }
 
 // The refusal and the word of three numbers; refusal 2 where they are no event's.
-#[unsafe(no_mangle)]
-pub extern "C" fn dock_pack(kind: u8, first: u16, second: u8) -> u32
+#[tactic(auto, unfolding(crate::specs::Events::packed_as))]
+pub fn dock_pack(kind: u8, first: u16, second: u8) -> u32
     ensures { result ≡ packed_as kind first second }
 {
     let Meant::This(event) = event_by(kind, first, second) else {

@@ -20,6 +20,7 @@ const UNFIT: u8 = 1;
 const UNFIT_RECORD: u32 = 0x1000_0000;
 
 // Writes an image into the bytes lent.
+#[tactic(auto, using(crate::proofs::Copy::one_more))]
 fn put(image: [u8; image::BYTES], state: &mut [u8])
     requires state_len { length state.old ≡ BYTES }
     requires image_len { length image ≡ BYTES }
@@ -33,8 +34,8 @@ fn put(image: [u8; image::BYTES], state: &mut [u8])
 }
 
 // Writes the image of a fresh controller.
-#[unsafe(no_mangle)]
-pub extern "C" fn dock_begin(state: &mut [u8]) -> u32
+#[tactic(auto, unfolding(crate::specs::Held::begun, crate::specs::Held::begun_in))]
+pub fn dock_begin(state: &mut [u8]) -> u32
     ensures value { result ≡ begun (length state.old) }
     ensures state_after { state.new ≡ begun_in state.old }
 {
@@ -46,6 +47,7 @@ pub extern "C" fn dock_begin(state: &mut [u8]) -> u32
 }
 
 // Takes words from the state held: the one place of the library that takes events.
+#[tactic(auto, using(bus::proofs::Cases::found, image::proofs::Whole::no_image, image::proofs::Whole::is_image_lem, image::proofs::Whole::image_whole, image::proofs::RoundTrip::parts, image::proofs::RoundTrip::saved_length, crate::proofs::Ran::ran_nothing, crate::proofs::Ran::ran, crate::proofs::Ran::ran_refused))]
 pub(crate) fn run(state: &mut [u8], words: &[u16], records: &mut [u8]) -> Outcome
     ensures value { result ≡ outcome_in state.old (length words.now) (length records.old) }
     ensures state_after { state.new ≡ batched_in state.old words.now (length records.old) }
@@ -74,8 +76,8 @@ fn number(bytes: &[u8]) -> u32
 }
 
 // One event. Answers its record's 32 bits.
-#[unsafe(no_mangle)]
-pub extern "C" fn dock_step(state: &mut [u8], word: u16) -> u32
+#[tactic(auto, using(bus::proofs::Cases::found, crate::proofs::OneWord::one_state, crate::proofs::OneWord::one_refused, crate::proofs::OneWord::one_record), unfolding(batch::specs::Record::record_of, batch::specs::Record::record_number))]
+pub fn dock_step(state: &mut [u8], word: u16) -> u32
     ensures value { result ≡ number_of (record_of (answer_in state.old word)) }
     ensures state_after { state.new ≡ stepped_in state.old word }
 {
@@ -89,8 +91,8 @@ pub extern "C" fn dock_step(state: &mut [u8], word: u16) -> u32
 }
 
 // Many events, a record for each. Answers the refusal and the count.
-#[unsafe(no_mangle)]
-pub extern "C" fn dock_batch(state: &mut [u8], words: &[u16], records: &mut [u8]) -> u32
+#[tactic(auto, using(crate::proofs::Counts::held_most))]
+pub fn dock_batch(state: &mut [u8], words: &[u16], records: &mut [u8]) -> u32
     ensures value { result ≡ batched_as (outcome_in state.old (length words.now) (length records.old)) }
     ensures state_after { state.new ≡ batched_in state.old words.now (length records.old) }
     ensures records_after { records.new ≡ records_in state.old words.now records.old }
@@ -106,8 +108,8 @@ fn named(naming: Naming) -> u32
 }
 
 // Names a kind, 1 the first and 2 the second, for the RESETs to come. Answers the refusal.
-#[unsafe(no_mangle)]
-pub extern "C" fn dock_name_kind(state: &mut [u8], kind: u8) -> u32
+#[tactic(auto, using(bus::proofs::Cases::found, image::proofs::Whole::no_image, image::proofs::Whole::is_image_lem, image::proofs::Whole::image_whole, image::proofs::RoundTrip::parts, image::proofs::RoundTrip::saved_length, crate::proofs::Named::names_nothing, crate::proofs::Named::names, crate::proofs::Named::names_refused))]
+pub fn dock_name_kind(state: &mut [u8], kind: u8) -> u32
     ensures value { result ≡ named_as (naming_in state.old kind) }
     ensures state_after { state.new ≡ named_in state.old kind }
 {
@@ -133,8 +135,8 @@ fn answered(answer: Told) -> u32
 }
 
 // One register's reading, outside the bus.
-#[unsafe(no_mangle)]
-pub extern "C" fn dock_reading(state: &[u8], address: u8) -> u32
+#[tactic(auto, using(bus::proofs::Cases::found, image::proofs::Whole::no_image, image::proofs::Whole::is_image_lem), unfolding(crate::specs::Held::reading_in))]
+pub fn dock_reading(state: &[u8], address: u8) -> u32
     ensures { result ≡ told_as (reading_in state.now address) }
 {
     let loaded = load(state);
@@ -146,8 +148,8 @@ pub extern "C" fn dock_reading(state: &[u8], address: u8) -> u32
 }
 
 // The nine outputs.
-#[unsafe(no_mangle)]
-pub extern "C" fn dock_outputs(state: &[u8]) -> u32
+#[tactic(auto, using(bus::proofs::Cases::found, image::proofs::Whole::no_image, image::proofs::Whole::is_image_lem), unfolding(crate::specs::Held::outputs_in))]
+pub fn dock_outputs(state: &[u8]) -> u32
     ensures { result ≡ told_as (outputs_in state.now) }
 {
     let loaded = load(state);
@@ -166,8 +168,8 @@ fn told(held: HeldByte) -> u32
 }
 
 // The byte that an open read holds, with bit 8 of the value set, or that none is: 0.
-#[unsafe(no_mangle)]
-pub extern "C" fn dock_held_byte(state: &[u8]) -> u32
+#[tactic(auto, using(bus::proofs::Cases::found, image::proofs::Whole::no_image, image::proofs::Whole::is_image_lem), unfolding(crate::specs::Held::held_in))]
+pub fn dock_held_byte(state: &[u8]) -> u32
     ensures { result ≡ held_as (held_in state.now) }
 {
     let loaded = load(state);

@@ -16,6 +16,7 @@ use chassis::{Answer, Errand, MOST, Refusal, Round, Seen, Told};
 use image::load::load;
 use image::{Loaded, Verdict};
 
+#[tactic(auto, using(bus::proofs::Cases::found, image::proofs::Whole::not_whole))]
 fn is_whole(verdict: Verdict) -> bool
     ensures { result ≡ whole verdict }
 {
@@ -34,6 +35,7 @@ const FOUR: usize = 4 * image::BYTES;
 
 // How many images so many bytes are, 0 where they are not those of one to four. They are compared and not divided: a small processor would need a
 // function for a division of 64 bits, and the library links alone.
+#[tactic(auto, using(crate::proofs::RanList::none_of_four))]
 fn images_in(bytes: usize) -> usize
     ensures { result ≡ count_in bytes }
 {
@@ -64,6 +66,7 @@ fn load_at(states: &[u8], place: usize) -> Loaded
 }
 
 // Every part is looked at, whether it is an image or not.
+#[tactic(auto, using(crate::proofs::Parts::Looking, crate::proofs::Parts::none_seen, crate::proofs::Parts::looks_on, crate::proofs::Parts::all_seen))]
 fn look(states: &[u8], count: usize) -> Looked
     requires count_bound { count ≤ MOST }
     requires states_len { length states.now ≡ count * BYTES }
@@ -84,6 +87,7 @@ fn look(states: &[u8], count: usize) -> Looked
 }
 
 // An image is passed: where the event reaches it, by the call on one state, whose record tells what it says on the bus.
+#[tactic(auto, using(dock::proofs::Shown::shown_after, crate::proofs::Passed::step_tells, crate::proofs::Passed::step_leaves, crate::proofs::Passed::left_alone, crate::proofs::Passed::outputs_told), unfolding(chassis::specs::Passing::passed_of, chassis::specs::Passing::passed_by))]
 fn pass_part(part: &mut [u8], round: Round, errand: Errand) -> Round
     requires { is_image part.old ≡ true }
     ensures value { result ≡ (passed_of errand round (state_in part.old)).round }
@@ -97,6 +101,7 @@ fn pass_part(part: &mut [u8], round: Round, errand: Errand) -> Round
 }
 
 // The parts are passed one after the other, in their place: no list of states is copied.
+#[tactic(auto, using(crate::proofs::Parts::Passing, crate::proofs::Parts::none_passed, crate::proofs::Parts::length_kept, crate::proofs::Parts::all_passed, crate::proofs::Parts::image_waits, crate::proofs::Parts::passes_on))]
 fn pass(states: &mut [u8], places: usize, errand: Errand) -> Round
     requires places_bound { places ≤ MOST }
     requires places_in_bounds { places * BYTES ≤ length states.old }
@@ -125,6 +130,7 @@ fn refused(refusal: Refusal) -> Told
 }
 
 // Takes one event for the states held. A refused call writes nothing.
+#[tactic(auto, using(chassis::proofs::Loops::places_within, crate::proofs::RanList::count_none, crate::proofs::RanList::Counted, crate::proofs::RanList::counted, crate::proofs::RanList::no_list, crate::proofs::RanList::no_image, crate::proofs::RanList::images_passed, crate::proofs::RanList::steps))]
 fn run(states: &mut [u8], named: usize, word: u16) -> Told
     ensures value { result ≡ told_in states.old named word }
     ensures states_after { states.new ≡ list_in states.old named word }
@@ -155,6 +161,7 @@ fn output_sets(first: u16, second: u16, third: u16, fourth: u16) -> u64
 }
 
 // An answer as 64 bits.
+#[tactic(auto, using(crate::proofs::SixtyFour::answer_small), unfolding(crate::specs::Lists::chassis_as))]
 fn number(told: Told) -> u64
     ensures { result ≡ chassis_as told }
 {
@@ -169,8 +176,7 @@ fn number(told: Told) -> u64
 }
 
 // One event for one to four states on one bus; PINS and RESET are for the one that is named, counted from 0.
-#[unsafe(no_mangle)]
-pub extern "C" fn dock_chassis_step(states: &mut [u8], named: usize, word: u16) -> u64
+pub fn dock_chassis_step(states: &mut [u8], named: usize, word: u16) -> u64
     ensures value { result ≡ chassis_as (told_in states.old named word) }
     ensures states_after { states.new ≡ list_in states.old named word }
 {

@@ -12,8 +12,8 @@ use queue_image::save::{save, save_put, save_take};
 const UNFIT: u8 = 1;
 
 // Writes the image of a queue in which nothing waits.
-#[unsafe(no_mangle)]
-pub extern "C" fn dock_queue_begin(queue: &mut [u8]) -> u32
+#[tactic(auto, unfolding(crate::specs::Queues::begun, crate::specs::Queues::begun_in, queue_image::specs::Save::saved_in))]
+pub fn dock_queue_begin(queue: &mut [u8]) -> u32
     ensures value { result ≡ begun (length queue.old) }
     ensures queue_after { queue.new ≡ begun_in queue.old }
 {
@@ -32,8 +32,8 @@ fn answered(outcome: Outcome) -> u32
 }
 
 // Puts a word behind those that wait. Answers the refusal.
-#[unsafe(no_mangle)]
-pub extern "C" fn dock_queue_put(queue: &mut [u8], word: u16) -> u32
+#[tactic(auto, using(queue_image::proofs::Told::loaded, crate::proofs::Turns::left_alone, crate::proofs::Turns::left_refused, crate::proofs::Turns::left_put))]
+pub fn dock_queue_put(queue: &mut [u8], word: u16) -> u32
     ensures value { result ≡ answered_as (outcome_in queue.old (put word)) }
     ensures queue_after { queue.new ≡ turned_in queue.old (put word) }
 {
@@ -50,8 +50,8 @@ pub extern "C" fn dock_queue_put(queue: &mut [u8], word: u16) -> u32
 }
 
 // Takes the word that has waited longest. Answers the refusal and the word.
-#[unsafe(no_mangle)]
-pub extern "C" fn dock_queue_take(queue: &mut [u8]) -> u32
+#[tactic(auto, using(queue_image::proofs::Told::loaded, crate::proofs::Turns::left_alone, crate::proofs::Turns::left_refused, crate::proofs::Turns::left_take))]
+pub fn dock_queue_take(queue: &mut [u8]) -> u32
     ensures value { result ≡ answered_as (outcome_in queue.old take) }
     ensures queue_after { queue.new ≡ turned_in queue.old take }
 {

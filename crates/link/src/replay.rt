@@ -9,8 +9,8 @@ use crate::held::run;
 use image::save::fresh;
 
 // Replays words from a fresh controller, a record for each. Answers the refusal and the count.
-#[unsafe(no_mangle)]
-pub extern "C" fn dock_replay(words: &[u16], records: &mut [u8]) -> u32
+#[tactic(auto, using(crate::proofs::Counts::held_most, crate::proofs::Saved::fresh_outcome, crate::proofs::Saved::fresh_records))]
+pub fn dock_replay(words: &[u16], records: &mut [u8]) -> u32
     ensures value { result ≡ batched_as (outcome_of fresh_controller (length words.now) (length records.old)) }
     ensures records_after { records.new ≡ buffer_after fresh_controller words.now records.old }
 {

@@ -7,8 +7,7 @@ ghost use Rattle.link.specs.Version.{VERSION};
 pub const VERSION: u32 = 5 * 256 + 3;
 
 // The version of the library that was linked, as a value: first number in bits 15-8, second in bits 7-0.
-#[unsafe(no_mangle)]
-pub extern "C" fn dock_version() -> u32
+pub fn dock_version() -> u32
     ensures { result ≡ VERSION }
 {
     VERSION

@@ -13,17 +13,18 @@ use wire::{Loaded, Outcome, Wire};
 const UNFIT: u8 = 1;
 
 // Writes the image of a held state into the bytes lent.
+#[tactic(auto, using(wire::proofs::Bytes::saved_length, crate::proofs::Wired::copied))]
 fn put(wire: Wire, held: &mut [u8])
     requires { length held.old ≡ BYTES }
     ensures { held.new ≡ saved wire }
 {
     let image = save(wire);
-    bytes::copy(&image, held);
+    held.copy_from_slice(&image);
 }
 
 // Writes the image of a fresh held state: both lines high, nothing listened for.
-#[unsafe(no_mangle)]
-pub extern "C" fn dock_wire_begin(held: &mut [u8]) -> u32
+#[tactic(auto, unfolding(crate::specs::Wires::begun, crate::specs::Wires::begun_in))]
+pub fn dock_wire_begin(held: &mut [u8]) -> u32
     ensures value { result ≡ begun (length held.old) }
     ensures held_after { held.new ≡ begun_in held.old }
 {
@@ -35,6 +36,7 @@ pub extern "C" fn dock_wire_begin(held: &mut [u8]) -> u32
 }
 
 // Hears samples from the held state.
+#[tactic(auto, using(bus::proofs::Cases::found, wire::proofs::Bytes::held_image, wire::proofs::Bytes::no_image, wire::proofs::Bytes::parts, crate::proofs::Wired::heard_nothing, crate::proofs::Wired::heard_refused, crate::proofs::Wired::heard))]
 fn hear(held: &mut [u8], samples: &[u8], words: &mut [u16]) -> Outcome
     ensures value { result ≡ outcome_in held.old samples.now (length words.old) }
     ensures held_after { held.new ≡ listened_in held.old samples.now (length words.old) }
@@ -62,8 +64,8 @@ fn counted(outcome: Outcome) -> u32
 }
 
 // Samples in, event words out. Answers the refusal and the number of words written.
-#[unsafe(no_mangle)]
-pub extern "C" fn dock_wire_listen(held: &mut [u8], samples: &[u8], words: &mut [u16]) -> u32
+#[tactic(auto, using(crate::proofs::Wired::heard_most))]
+pub fn dock_wire_listen(held: &mut [u8], samples: &[u8], words: &mut [u16]) -> u32
     ensures value { result ≡ listened_as (outcome_in held.old samples.now (length words.old)) }
     ensures held_after { held.new ≡ listened_in held.old samples.now (length words.old) }
     ensures words_after { words.new ≡ words_in held.old samples.now words.old }

@@ -14,6 +14,7 @@ use bits::straps::{lock_def, lock_mode};
 use kind::Kind;
 
 // 199 is followed by 0.
+#[tactic(auto, unfolding(crate::specs::Acts::next_phase))]
 fn next_phase(phase: u8) -> u8
     ensures { result ≡ next_phase phase }
 {
@@ -25,6 +26,7 @@ fn next_phase(phase: u8) -> u8
 }
 
 // LOCK_CTL, LETR and the bay count after a RESET into this kind.
+#[tactic(auto, unfolding(crate::specs::Acts::lock_after_reset))]
 fn lock_after_reset(kind: Kind, straps: u8) -> bool
     ensures { result ≡ lock_after_reset kind straps }
 {
@@ -34,6 +36,7 @@ fn lock_after_reset(kind: Kind, straps: u8) -> bool
     }
 }
 
+#[tactic(auto, unfolding(crate::specs::Acts::letr_after_reset))]
 fn letr_after_reset(kind: Kind, short_pulse: bool) -> u8
     ensures { result ≡ letr_after_reset kind short_pulse }
 {
@@ -43,6 +46,7 @@ fn letr_after_reset(kind: Kind, short_pulse: bool) -> u8
     }
 }
 
+#[tactic(auto, unfolding(crate::specs::Acts::count_after_reset))]
 fn count_after_reset(kind: Kind) -> u8
     ensures { result ≡ count_after_reset kind }
 {
@@ -71,6 +75,7 @@ fn moved(open: bool, hides: bool, bay: Bay, ticks: u16, inputs: Inputs) -> Bay
 }
 
 // A tick finds nothing to do in either bay, and leaves both as they are.
+#[tactic(auto, unfolding(crate::specs::Acts::restful, crate::specs::Record::bay_in))]
 fn rest(bays: [Bay; 2]) -> bool
     ensures value { result ≡ restful bays }
     ensures i_value { result ≡ true → (hides : Bool) (s : Setting) (i : ℕ) → ticked_bay hides s (bay_in bays i) ≡ bay_in bays i }
@@ -80,6 +85,7 @@ fn rest(bays: [Bay; 2]) -> bool
 
 impl Machine {
     // The named kind comes into force. Bay 0's levels are bits 7-4.
+    #[tactic(auto, unfolding(crate::specs::Acts::reset_as))]
     fn reset(self, straps: u8, levels: u8, short_pulse: bool) -> Machine
         ensures { result ≡ reset_to straps levels short_pulse self }
     {
@@ -101,6 +107,7 @@ impl Machine {
     }
 
     // The name stays for every later RESET; until one comes nothing else changes.
+    #[tactic(auto, unfolding(crate::specs::Acts::name_to))]
     pub fn name(self, kind: Kind) -> Machine
         ensures { result ≡ name_to kind self }
     {
@@ -120,6 +127,7 @@ impl Machine {
         }
     }
 
+    #[tactic(auto, unfolding(crate::specs::Acts::pins_to, crate::specs::Acts::sampled_at, crate::specs::Record::bay_in, crate::specs::Record::open_by))]
     fn pins(self, levels: u8) -> Machine
         ensures { result ≡ pins_to levels self }
     {
@@ -144,6 +152,7 @@ impl Machine {
     }
 
     // Where both bays rest, as in most ticks, only the phase moves. Else the inputs of both come first, and then the record.
+    #[tactic(auto, unfolding(crate::specs::Acts::does, crate::specs::Acts::keeps, crate::specs::Acts::tick_to, crate::specs::Record::bay_in, crate::specs::Acts::ticked_at, bay::specs::Moves::ticked_bay, crate::specs::Record::open_by))]
     fn tick(self) -> Acted
         ensures { result ≡ acted Act.Tick self }
     {
@@ -197,6 +206,7 @@ impl Machine {
     }
 
     // The machine after an act.
+    #[tactic(auto, unfolding(crate::specs::Acts::does, crate::specs::Acts::keeps))]
     pub fn does(self, act: Act) -> Acted
         ensures { result ≡ acted act self }
     {

@@ -33,6 +33,7 @@ fn bay_of(address: u8) -> u8
 }
 
 impl Machine {
+    #[tactic(auto, unfolding(crate::specs::FirstKind::first_register, crate::specs::FirstKind::first_registers))]
     pub(crate) fn first_register(self, address: u8) -> u8
         ensures { result ≡ first_register self address }
     {
@@ -49,6 +50,7 @@ impl Machine {
         }
     }
 
+    #[tactic(auto, unfolding(crate::specs::FirstKind::letr_write))]
     fn with_letr(self, value: u8) -> Machine
         ensures { result ≡ letr_write value self }
     {
@@ -74,6 +76,7 @@ impl Machine {
         }
     }
 
+    #[tactic(auto, unfolding(crate::specs::FirstKind::wait_write))]
     fn with_wait(self, value: u8) -> Machine
         ensures { result ≡ wait_write value self }
     {
@@ -99,6 +102,7 @@ impl Machine {
         }
     }
 
+    #[tactic(auto, unfolding(crate::specs::FirstKind::first_written, crate::specs::FirstKind::first_writes))]
     pub(crate) fn first_write(self, address: u8, value: u8) -> Machine
         ensures { result ≡ first_written address value self }
     {

@@ -6,6 +6,7 @@ use crate::Machine;
 use kind::Kind;
 
 impl Machine {
+    #[tactic(auto, unfolding(crate::specs::InForce::register))]
     fn register(self, address: u8) -> u8
         ensures { result ≡ register self address }
     {
@@ -17,6 +18,7 @@ impl Machine {
     }
 
     // What an address reads: the answer to a whole read.
+    #[tactic(auto, unfolding(crate::specs::InForce::reading))]
     pub fn reading(self, address: u8) -> u8
         ensures { result ≡ reading self address }
     {
@@ -28,6 +30,7 @@ impl Machine {
     }
 
     // A whole write.
+    #[tactic(auto, unfolding(crate::specs::InForce::written))]
     pub(crate) fn write(self, address: u8, value: u8) -> Machine
         ensures { result ≡ written address value self }
     {

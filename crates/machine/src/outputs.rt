@@ -28,6 +28,7 @@ fn wants(open: bool, bay: Bay) -> bool
 
 impl Machine {
     // Bit 8 to 0: bay 0's power, lock pin, green, yellow, the same for bay 1, interrupt asserted.
+    #[tactic(auto, unfolding(crate::specs::Outputs::outputs, crate::specs::Outputs::nibble, crate::specs::Outputs::wants, crate::specs::Record::bay_in, crate::specs::Record::open_by))]
     pub fn outputs(self) -> u16
         ensures { result ≡ outputs self }
     {

@@ -10,6 +10,7 @@ use second::Second;
 
 impl Machine {
     // A machine before its first RESET.
+    #[tactic(auto, unfolding(crate::specs::Record::fresh_machine))]
     pub fn fresh() -> Machine
         ensures { result ≡ fresh_machine }
     {
@@ -26,6 +27,7 @@ impl Machine {
     }
 
     // Whether each number of the record is one that the rules of the kind in force can make.
+    #[tactic(auto, unfolding(crate::specs::Record::fits, crate::specs::Record::bay_in))]
     pub fn fit(self) -> bool
         ensures { result ≡ fits self }
     {
@@ -64,6 +66,7 @@ impl Shared {
 }
 
 // Bay 0, or else bay 1.
+#[tactic(auto, unfolding(crate::specs::Record::bay_in))]
 pub(crate) fn bay_in(bays: [Bay; 2], i: u8) -> Bay
     ensures { result ≡ bay_in bays i }
 {
@@ -71,6 +74,7 @@ pub(crate) fn bay_in(bays: [Bay; 2], i: u8) -> Bay
 }
 
 // Bay 0 is always open, bay 1 unless the stored count is 1.
+#[tactic(auto, unfolding(crate::specs::Record::open_by))]
 pub(crate) fn is_open(bay_count: u8, i: u8) -> bool
     ensures { result ≡ open_by bay_count i }
 {

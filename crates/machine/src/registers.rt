@@ -13,6 +13,7 @@ use bits::{has, put};
 use kind::Kind;
 
 // The bay count that a byte written to DBCCR stores.
+#[tactic(auto, unfolding(crate::specs::Registers::count_written))]
 fn count_written(kind: Kind, value: u8) -> u8
     ensures { result ≡ count_written kind value }
 {
@@ -67,6 +68,7 @@ fn bcer_written(meant: bool, bay: Bay, value: u8, hides: bool, setting: Setting)
 
 impl Shared {
     // DBCCR as it reads: bit 4 SECLOCK, bits 1-0 bay count.
+    #[tactic(auto, unfolding(crate::specs::Registers::dbccr_of))]
     fn dbccr(self) -> u8
         ensures { result ≡ dbccr_of self }
     {
@@ -83,6 +85,7 @@ impl Machine {
     }
 
     // BSTR of bay i, and BCER.
+    #[tactic(auto, unfolding(crate::specs::Registers::bstr_at))]
     pub(crate) fn bstr(self, i: u8) -> u8
         ensures { result ≡ bstr_at self i }
     {
@@ -95,6 +98,7 @@ impl Machine {
         )
     }
 
+    #[tactic(auto, unfolding(crate::specs::Registers::bcer_at))]
     pub(crate) fn bcer(self, i: u8) -> u8
         ensures { result ≡ bcer_at self i }
     {
@@ -103,6 +107,7 @@ impl Machine {
     }
 
     // Only the first write after a RESET counts; count 1 closes bay 1 and makes its record empty.
+    #[tactic(auto, unfolding(crate::specs::Registers::dbccr_write, crate::specs::Registers::dbccr_stored, crate::specs::Record::bay_in))]
     pub(crate) fn with_dbccr(self, value: u8) -> Machine
         ensures { result ≡ dbccr_write value self }
     {
@@ -132,6 +137,7 @@ impl Machine {
         }
     }
 
+    #[tactic(auto, using(crate::proofs::Bays::meant), unfolding(crate::specs::Registers::bstr_write))]
     pub(crate) fn with_bstr(self, i: u8, value: u8) -> Machine
         ensures { result ≡ bstr_write i value self }
     {
@@ -158,6 +164,7 @@ impl Machine {
         }
     }
 
+    #[tactic(auto, using(crate::proofs::Bays::meant), unfolding(crate::specs::Registers::bcer_write))]
     pub(crate) fn with_bcer(self, i: u8, value: u8) -> Machine
         ensures { result ≡ bcer_write i value self }
     {

@@ -58,6 +58,7 @@ fn whole(byte: u8) -> u8
 
 impl Machine {
     // Byte k of the subsystem words.
+    #[tactic(auto, unfolding(crate::specs::SecondKind::subsystem_at))]
     fn subsystem(self, k: u8) -> u8
         ensures { result ≡ subsystem_at self k }
     {
@@ -72,6 +73,7 @@ impl Machine {
     }
 
     // BAY_FF of bay i; 0 of a closed one.
+    #[tactic(auto, unfolding(crate::specs::SecondKind::form_factor_at))]
     fn form_factor(self, i: u8) -> u8
         ensures { result ≡ form_factor_at self i }
     {
@@ -86,6 +88,7 @@ impl Machine {
         }
     }
 
+    #[tactic(auto, unfolding(crate::specs::SecondKind::second_register, crate::specs::SecondKind::second_registers))]
     pub(crate) fn second_register(self, address: u8) -> u8
         ensures { result ≡ second_register self address }
     {
@@ -125,6 +128,7 @@ impl Machine {
         }
     }
 
+    #[tactic(auto, unfolding(crate::specs::SecondKind::subsystem_write))]
     fn with_subsystem(self, k: u8, value: u8) -> Machine
         ensures { result ≡ subsystem_write k value self }
     {
@@ -133,6 +137,7 @@ impl Machine {
     }
 
     // That of a closed bay takes no write, which doesn't count as one.
+    #[tactic(auto, unfolding(crate::specs::SecondKind::form_factor_write))]
     fn with_form_factor(self, i: u8, value: u8) -> Machine
         ensures { result ≡ form_factor_write i value self }
     {
@@ -144,6 +149,7 @@ impl Machine {
     }
 
     // The first write opens the locks of both bays, and power goes with them; no other counts.
+    #[tactic(auto, unfolding(crate::specs::SecondKind::sfr_write, crate::specs::Record::bay_in))]
     fn with_sfr(self, value: u8) -> Machine
         ensures { result ≡ sfr_write value self }
     {
@@ -157,6 +163,7 @@ impl Machine {
         )
     }
 
+    #[tactic(auto, unfolding(crate::specs::SecondKind::second_written, crate::specs::SecondKind::second_writes))]
     pub(crate) fn second_write(self, address: u8, value: u8) -> Machine
         ensures { result ≡ second_written address value self }
     {

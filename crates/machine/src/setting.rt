@@ -9,6 +9,7 @@ use bits::straps::lock_mode;
 use kind::Kind;
 
 // How many ticks a lock time stands for.
+#[tactic(auto, unfolding(crate::specs::Setting::pulse_ticks_of))]
 pub fn pulse_ticks(lock_time: u8) -> u16
     ensures { result ≡ pulse_ticks_of lock_time }
 {
@@ -34,6 +35,7 @@ fn within_period(phase: u8) -> u8
 }
 
 // Whether a flashing lamp is lit in this phase.
+#[tactic(auto, unfolding(crate::specs::Setting::is_lit))]
 pub(crate) fn is_lit(kind: Kind, phase: u8) -> bool
     ensures { result ≡ is_lit kind phase }
 {
@@ -45,6 +47,7 @@ pub(crate) fn is_lit(kind: Kind, phase: u8) -> bool
 
 impl Machine {
     // Whether a wait hides the device.
+    #[tactic(auto, unfolding(crate::specs::Setting::hides))]
     pub(crate) fn hides(self) -> bool
         ensures { result ≡ hides self }
     {
@@ -53,6 +56,7 @@ impl Machine {
     }
 
     // Whether the security lock shows in BSTR.
+    #[tactic(auto, unfolding(crate::specs::Setting::secured))]
     pub(crate) fn secured(self) -> bool
         ensures { result ≡ secured self }
     {
@@ -61,6 +65,7 @@ impl Machine {
     }
 
     // LOCK_MODE, LETR and 42h.
+    #[tactic(auto, unfolding(crate::specs::Setting::first_setting))]
     fn first_setting(self) -> Setting
         ensures { result ≡ first_setting self }
     {
@@ -73,6 +78,7 @@ impl Machine {
     }
 
     // SFR.
+    #[tactic(auto, unfolding(crate::specs::Setting::second_setting))]
     fn second_setting(self) -> Setting
         ensures { result ≡ second_setting self }
     {
@@ -84,6 +90,7 @@ impl Machine {
         }
     }
 
+    #[tactic(auto, unfolding(crate::specs::Setting::setting_of))]
     pub(crate) fn setting(self) -> Setting
         ensures { result ≡ setting_of self }
     {

@@ -13,6 +13,7 @@ fn once(meant: bool, written: bool, old: u8, value: u8) -> u8
 
 impl Second {
     // A write of byte `i` of the subsystem words.
+    #[tactic(auto, unfolding(crate::specs::Once::after_subsystem_write))]
     pub fn with_subsystem(self, i: u8, value: u8) -> Second
         ensures { result ≡ after_subsystem_write i value self }
     {
@@ -41,6 +42,7 @@ impl Second {
     }
 
     // A write of bay i's BAY_FF: three bits of the byte.
+    #[tactic(auto, unfolding(crate::specs::Once::form_factor_written))]
     pub fn with_form_factor(self, i: u8, value: u8) -> Second
         ensures { result ≡ form_factor_written i value self }
     {
@@ -62,6 +64,7 @@ impl Second {
     }
 
     // A write of SFR.
+    #[tactic(auto, unfolding(crate::specs::Once::after_sfr_write))]
     pub fn with_sfr(self, value: u8) -> Second
         ensures { result ≡ after_sfr_write value self }
     {

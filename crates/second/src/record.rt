@@ -6,6 +6,7 @@ use crate::Second;
 
 impl Second {
     // All 0 and unwritten.
+    #[tactic(auto, unfolding(crate::specs::Record::fresh))]
     pub fn fresh() -> Second
         ensures { result ≡ fresh }
     {
@@ -21,6 +22,7 @@ impl Second {
 
     // A RESET into either kind: the subsystem words stay and can be written again, SFR is 0 and can be too. A form
     // factor is written once in the controller's life.
+    #[tactic(auto, unfolding(crate::specs::Record::reset))]
     pub fn reset(self) -> Second
         ensures { result ≡ reset self }
     {
@@ -38,6 +40,7 @@ impl Second {
     }
 
     // Whether each number of the record is one that the rules can make.
+    #[tactic(auto, unfolding(crate::specs::Record::fits))]
     pub fn fit(self) -> bool
         ensures { result ≡ fits self }
     {

@@ -7,6 +7,7 @@ use bits::has;
 
 impl Second {
     // For so many ticks a device seats that arrives: 800 ms for each of ITO.
+    #[tactic(auto, unfolding(crate::specs::Sfr::wait_ticks_of))]
     pub fn wait_ticks(self) -> u16
         ensures { result ≡ wait_ticks_of self }
     {
@@ -14,6 +15,7 @@ impl Second {
     }
 
     // The lock is pulsed where SOL is above 0.
+    #[tactic(auto, unfolding(crate::specs::Sfr::pulsed))]
     pub fn pulsed(self) -> bool
         ensures { result ≡ pulsed self }
     {
@@ -21,6 +23,7 @@ impl Second {
     }
 
     // A pulse's ticks: 50 ms for each of SOL, or 800 ms with SPD.
+    #[tactic(auto, unfolding(crate::specs::Sfr::pulse_ticks_of))]
     pub fn pulse_ticks(self) -> u16
         ensures { result ≡ pulse_ticks_of self }
     {

@@ -13,7 +13,7 @@ use Rattle.wire.specs.Waves.{High, Low, Pulse, Pulses, level_after}
 use Rattle.wire.specs.declared.Ear.{Ear}
 use Rattle.wire.specs.declared.Listening.TheVariants.{Nothing}
 use Rattle.event.specs.declared.Event.TheVariants as event
-use Rattle.wire.specs.declared.Given.TheVariants as goal
+use Rattle.wire.specs.declared.Given.TheVariants as given
 use Rattle.wire.proofs.Samples.{at, hears, Goes, none, first, then, renamed, steady, clocked, waits, too_long, no_more}
 
 -- ---- levels that are held
@@ -42,7 +42,7 @@ low_spent d e (Low.more s c h) = let r = low_spent (bit 0 s) e h in record { lev
 
 reached :
     (d : Bool) (k : ℕ) (e : Ear) (s : ℕ) → k ≡ 17500 → bit 1 s ≡ false
-    → hear_of (at d k e) s ≡ hears (at (bit 0 s) 17501 (waiting Nothing)) (goal.Event event.Timeout)
+    → hear_of (at d k e) s ≡ hears (at (bit 0 s) 17501 (waiting Nothing)) (given.Event event.Timeout)
 reached d k e s last c = rw last (too_long e s d c)
 
 -- One TIMEOUT for a stretch, however long it goes on.

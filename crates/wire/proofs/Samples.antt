@@ -15,7 +15,7 @@ use Rattle.wire.specs.declared.Wire.{Wire}
 use Rattle.wire.specs.declared.Ear.{Ear}
 use Rattle.wire.specs.declared.Heard.{Heard}
 use Rattle.wire.specs.declared.Given.{Given}
-use Rattle.wire.specs.declared.Given.TheVariants as goal
+use Rattle.wire.specs.declared.Given.TheVariants as given
 use Rattle.wire.specs.declared.Listening.TheVariants.{Nothing, FirstByte}
 use Rattle.wire.specs.declared.Shown.TheVariants as shown
 use Rattle.wire.proofs.Cut.{after_append, events_append}
@@ -25,7 +25,7 @@ abbrev pub at : Bool → ℕ → Ear → Wire
 at d low e = record { lines = record { sdat = d; low = low }; ear = e }
 
 abbrev pub hears : Wire → Given → Heard
-hears w g = record { wire = w; goal = g }
+hears w g = record { wire = w; given = g }
 
 -- ---- one sample
 
@@ -34,15 +34,15 @@ module _ (e : Ear) (s : ℕ) where
   unmoved true = refl
   unmoved false = refl
 
-  pub steady : (d : Bool) → bit 1 s ≡ true → bit 0 s ≡ d → hear_of (at d 0 e) s ≡ hears (at d 0 e) goal.Nothing
+  pub steady : (d : Bool) → bit 1 s ≡ true → bit 0 s ≡ d → hear_of (at d 0 e) s ≡ hears (at d 0 e) given.Nothing
   unfolding hear_of lines_after shown_by tells
   steady d c f = rw (c, f, unmoved d)
 
-  pub falls : bit 1 s ≡ true → bit 0 s ≡ false → hear_of (at true 0 e) s ≡ hears (at false 0 (waiting FirstByte)) (goal.Event event.Start)
+  pub falls : bit 1 s ≡ true → bit 0 s ≡ false → hear_of (at true 0 e) s ≡ hears (at false 0 (waiting FirstByte)) (given.Event event.Start)
   unfolding hear_of lines_after shown_by tells
   falls c f = rw (c, f)
 
-  pub rises : bit 1 s ≡ true → bit 0 s ≡ true → hear_of (at false 0 e) s ≡ hears (at true 0 (waiting Nothing)) (goal.Event event.Stop)
+  pub rises : bit 1 s ≡ true → bit 0 s ≡ true → hear_of (at false 0 e) s ≡ hears (at true 0 (waiting Nothing)) (given.Event event.Stop)
   unfolding hear_of lines_after shown_by tells
   rises c f = rw (c, f)
 
@@ -51,15 +51,15 @@ module _ (e : Ear) (s : ℕ) where
   unfolding hear_of lines_after shown_by tells
   clocked d b k l c f = rw (c, f, ne_eqb k 0 (λ z. omega (arith, z, l)))
 
-  pub waits : (d : Bool) (k : ℕ) → k < 17500 → bit 1 s ≡ false → hear_of (at d k e) s ≡ hears (at (bit 0 s) (k + 1) e) goal.Nothing
+  pub waits : (d : Bool) (k : ℕ) → k < 17500 → bit 1 s ≡ false → hear_of (at d k e) s ≡ hears (at (bit 0 s) (k + 1) e) given.Nothing
   unfolding hear_of lines_after shown_by tells
   waits d k l c = rw (c, ne_eqb k 17500 (λ z. omega (arith, z, l)), le-leb k 17500 (omega arith))
 
-  pub too_long : (d : Bool) → bit 1 s ≡ false → hear_of (at d 17500 e) s ≡ hears (at (bit 0 s) 17501 (waiting Nothing)) (goal.Event event.Timeout)
+  pub too_long : (d : Bool) → bit 1 s ≡ false → hear_of (at d 17500 e) s ≡ hears (at (bit 0 s) 17501 (waiting Nothing)) (given.Event event.Timeout)
   unfolding hear_of lines_after shown_by tells
   too_long d c = rw c
 
-  pub no_more : (d : Bool) → bit 1 s ≡ false → hear_of (at d 17501 e) s ≡ hears (at (bit 0 s) 17501 e) goal.Nothing
+  pub no_more : (d : Bool) → bit 1 s ≡ false → hear_of (at d 17501 e) s ≡ hears (at (bit 0 s) 17501 e) given.Nothing
   unfolding hear_of lines_after shown_by tells
   no_more d c = rw c
 

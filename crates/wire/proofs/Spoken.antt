@@ -6,7 +6,6 @@ use mathlib.Core.Bool.{Bool, true, false, not, cond}
 use mathlib.Core.List.{List, [], ◌∷◌, ◌++◌, map}
 use lib.Dec.{ltb}
 use Rattle.event.specs.Words.{unpacked, packed, word_of, straps_of}
-use Rattle.event.specs.declared.Event.{Event}
 use Rattle.event.specs.declared.Event.TheVariants as event
 use Rattle.event.specs.declared.Unpacked.TheVariants.{Accepted}
 use Rattle.event.proofs.Theorems.{by_kind}
@@ -16,7 +15,7 @@ use Rattle.wire.specs.Hear.{hear_of, events_in, events_of, spelled, words_of}
 use Rattle.wire.specs.declared.Wire.{Wire}
 use Rattle.wire.specs.declared.Ear.{Ear}
 use Rattle.wire.specs.declared.Given.{Given}
-use Rattle.wire.specs.declared.Given.TheVariants as goal
+use Rattle.wire.specs.declared.Given.TheVariants as given
 use Rattle.wire.specs.declared.Listening.{Listening}
 use Rattle.wire.specs.declared.Listening.TheVariants.{Nothing, FirstByte, Bytes, Takes}
 use Rattle.wire.specs.declared.Shown.{Shown}
@@ -27,26 +26,26 @@ pub record Spoken (g : Given) : Type 0 where
   pub word : spelled g ≡ map word_of (events_in g)
   pub event : map unpacked (spelled g) ≡ map Accepted (events_in g)
 
-nothing : Spoken goal.Nothing
+nothing : Spoken given.Nothing
 nothing = record { word = refl; event = refl }
 
-start : Spoken (goal.Event event.Start)
+start : Spoken (given.Event event.Start)
 unfolding packed word_of straps_of
 start = record { word = refl; event = ap (λ u. u ∷ []) by_kind.start }
 
-stop : Spoken (goal.Event event.Stop)
+stop : Spoken (given.Event event.Stop)
 unfolding packed word_of straps_of
 stop = record { word = refl; event = ap (λ u. u ∷ []) by_kind.stop }
 
-timeout : Spoken (goal.Event event.Timeout)
+timeout : Spoken (given.Event event.Timeout)
 unfolding packed word_of straps_of
 timeout = record { word = refl; event = ap (λ u. u ∷ []) by_kind.timeout }
 
-byte : (b : ℕ) → b < 256 → Spoken (goal.Event (event.Byte b))
+byte : (b : ℕ) → b < 256 → Spoken (given.Event (event.Byte b))
 unfolding packed word_of straps_of
 byte b l = record { word = refl; event = ap (λ u. u ∷ []) (by_kind.byte b l) }
 
-take : (ack : Bool) → Spoken (goal.Event (event.Take ack))
+take : (ack : Bool) → Spoken (given.Event (event.Take ack))
 unfolding packed word_of straps_of
 take true = record { word = refl; event = ap (λ u. u ∷ []) by_kind.take_ack }
 take false = record { word = refl; event = ap (λ u. u ∷ []) by_kind.take_nack }
@@ -69,7 +68,7 @@ bit_spoken e d = go (listens e.listening) (ltb e.bits 8) (ltb (e.bits + 1) 8)
   where
     go :
         (t u v : Bool)
-        → Spoken (cond t (cond u (told (collects e d).ear (cond v goal.Nothing (eighth e.listening (joined e.value d)))) (ninth e d)) (told e goal.Nothing)).given
+        → Spoken (cond t (cond u (told (collects e d).ear (cond v given.Nothing (eighth e.listening (joined e.value d)))) (ninth e d)) (told e given.Nothing)).given
     go true true true = nothing
     go true true false = eighth_spoken e.listening _ (omega arith)
     go true false v = ninth_spoken e.listening d
@@ -96,8 +95,8 @@ words_of_events w (s ∷ ss) =
     rw ((sample_spoken w s).word, words_of_events (hear_of w s).wire ss) (either (hear_of w s).given)
   where
     either : (g : Given) → map word_of (events_in g) ++ map word_of (events_of (hear_of w s).wire ss) ≡ map word_of (events_in g ++ events_of (hear_of w s).wire ss)
-    either goal.Nothing = refl
-    either (goal.Event e) = refl
+    either given.Nothing = refl
+    either (given.Event e) = refl
 
 pub words_unpack : (w : Wire) (ss : List ℕ) → map unpacked (words_of w ss) ≡ map Accepted (events_of w ss)
 unfolding words_of events_of
@@ -107,5 +106,5 @@ words_unpack w (s ∷ ss) = both (hear_of w s).given (sample_spoken w s) (words_
     both :
         (g : Given) → Spoken g → map unpacked (words_of (hear_of w s).wire ss) ≡ map Accepted (events_of (hear_of w s).wire ss)
         → map unpacked (spelled g ++ words_of (hear_of w s).wire ss) ≡ map Accepted (events_in g ++ events_of (hear_of w s).wire ss)
-    both goal.Nothing p r = r
-    both (goal.Event e) p r = ap (λ us. us ++ map unpacked (words_of (hear_of w s).wire ss)) p.event ∙ ap (λ us. Accepted e ∷ us) r
+    both given.Nothing p r = r
+    both (given.Event e) p r = ap (λ us. us ++ map unpacked (words_of (hear_of w s).wire ss)) p.event ∙ ap (λ us. Accepted e ∷ us) r

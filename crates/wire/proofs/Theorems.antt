@@ -7,7 +7,7 @@ use mathlib.Core.Bool.{Bool, true, false}
 use mathlib.Core.List.{List, [], ◌∷◌, ◌++◌, map}
 use lib.ListN.{length}
 use borrow.Author.Tests.{lt-ltb, le-ltb}
-use denote.Ref.{Bor}
+use denote.Ref.{Bor, MutBor}
 use Rattle.event.specs.Words.{word_of}
 use Rattle.event.specs.declared.Event.{Event}
 use Rattle.wire.specs.Record.{fresh_wire, fits}
@@ -142,7 +142,7 @@ load_determined κs bytes r r' p q = p ∙ sym q
 
 -- Of the call also the places that it leaves.
 pub listen_determined :
-    (κs : _) (w : Wire) (samples words : Bor (List ℕ)) (r r' : Listened) (left left' : Bor (List ℕ))
+    (κs : _) (w : Wire) (samples : Bor (List ℕ)) (words : MutBor (List ℕ)) (r r' : Listened) (left left' : MutBor (List ℕ))
     → listen_reads.Post κs (w, (samples, (words, tt))) r (w, (samples, (left, tt)))
     → listen_reads.Post κs (w, (samples, (words, tt))) r' (w, (samples, (left', tt)))
     → (r ≡ r') × (left.now ≡ left'.now)

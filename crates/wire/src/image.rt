@@ -51,6 +51,7 @@ impl Listening {
     }
 }
 
+#[tactic(auto, unfolding(crate::specs::Image::saved))]
 pub fn save(wire: Wire) -> [u8; BYTES]
     ensures { result ≡ saved wire }
 {
@@ -69,6 +70,7 @@ pub fn save(wire: Wire) -> [u8; BYTES]
 }
 
 // The held state of an image.
+#[tactic(auto, unfolding(crate::specs::Image::wire_in))]
 fn wire_in(image: &[u8]) -> Wire
     requires { length image.now ≡ BYTES }
     ensures { result ≡ wire_in image.now }
@@ -87,6 +89,7 @@ fn wire_in(image: &[u8]) -> Wire
 }
 
 // The held state of an image, fit or not; other bytes are none.
+#[tactic(auto, unfolding(crate::specs::Image::load_of, crate::specs::Image::is_image))]
 pub fn load(image: &[u8]) -> Loaded
     ensures { result ≡ load_of image.now }
 {

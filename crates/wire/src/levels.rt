@@ -49,6 +49,7 @@ impl Lines {
     pub const MOST_LOW: u16 = 17500;
 
     // The lines after a sample. One more low sample than there may be is counted, and no further one.
+    #[tactic(auto, unfolding(crate::specs::Levels::lines_after))]
     pub(crate) fn after(self, sample: u8) -> Lines
         ensures { result ≡ lines_after self sample }
     {
@@ -69,6 +70,7 @@ impl Lines {
     }
 
     // What a sample shows.
+    #[tactic(auto, unfolding(crate::specs::Levels::shown_by))]
     pub(crate) fn shown(self, sample: u8) -> Shown
         ensures { result ≡ shown_by self sample }
     {

@@ -11,6 +11,7 @@ use event::pack;
 pub const MOST_SAMPLES: usize = 16384;
 
 // The word of what a sample gave, at the first of the places lent. Answers how many words that is.
+#[tactic(auto, using(crate::proofs::Places::put_first), unfolding(crate::specs::Listen::written))]
 fn put(given: Given, places: &mut [u16]) -> usize
     requires { 1 ≤ length places.old }
     ensures value { result ≡ length (spelled given) }
@@ -46,6 +47,7 @@ fn run(wire: Wire, samples: &[u8], words: &mut [u16]) -> Listened
 }
 
 // The call. Refusals 1, 5 and 4, in that order, leave the held state as given and write nothing.
+#[tactic(auto, unfolding(crate::specs::Listen::outcome_of, crate::specs::Listen::listen_of, crate::specs::Listen::places_after))]
 pub fn listen(wire: Wire, samples: &[u8], words: &mut [u16]) -> Listened
     ensures value { result ≡ listen_of wire samples.now (length words.old) }
     ensures words_after { words.new ≡ places_after wire samples.now words.old }

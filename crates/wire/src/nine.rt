@@ -128,6 +128,7 @@ impl Ear {
     }
 
     // A bit.
+    #[tactic(auto, unfolding(crate::specs::Nine::bit_to))]
     fn bit(self, sdat: bool) -> Told
         ensures { result ≡ bit_to self «sdat» }
     {
@@ -146,6 +147,7 @@ impl Ear {
     }
 
     // What the lines show. START, STOP and TIMEOUT drop what has come of a byte.
+    #[tactic(auto, unfolding(crate::specs::Nine::tells))]
     pub(crate) fn hears(self, shown: Shown) -> Told
         ensures { result ≡ tells self shown }
     {

@@ -7,6 +7,7 @@ use crate::{Ear, Given, Heard, Lines, Listening, Wire};
 
 impl Wire {
     // Both lines are high, and nothing is listened for.
+    #[tactic(auto, unfolding(crate::specs::Record::fresh_wire))]
     pub fn fresh() -> Wire
         ensures { result ≡ fresh_wire }
     {
@@ -17,6 +18,7 @@ impl Wire {
     }
 
     // At most eight bits, and a low run that has ended in a TIMEOUT or before it.
+    #[tactic(auto, unfolding(crate::specs::Record::fits))]
     pub fn fit(self) -> bool
         ensures { result ≡ fits self }
     {
@@ -25,6 +27,7 @@ impl Wire {
 
     // One sample. Most show nothing, and leave what has come of a byte where it is. It is defined for a state that isn't
     // fit too.
+    #[tactic(auto, unfolding(crate::specs::Nine::tells, crate::specs::Hear::hear_of))]
     pub fn hear(self, sample: u8) -> Heard
         ensures { result ≡ hear_of self sample }
     {
