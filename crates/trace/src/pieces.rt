@@ -7,6 +7,7 @@ ghost use Rattle.trace.specs.Pieces.{lines_fed, fed_of, begun, ending_of};
 
 use dock::Controller;
 use lines::line::{LINE, line};
+use lines::text::copy;
 
 // The byte of a word that has come without the other.
 #[derive(Clone, Copy)]
@@ -34,7 +35,7 @@ pub(crate) fn begin(output: &mut [u8]) -> Fed
     ensures value { result ≡ begun }
     ensures output_after { output.new ≡ written header output.old }
 {
-    let length = bytes::copy(b"word ref rep byte out\n", output);
+    let length = copy(b"word ref rep byte out\n", output);
     Fed {
         trace: Trace {
             controller: Controller::fresh(),
@@ -66,7 +67,7 @@ fn hear(trace: Trace, byte: u8, output: &mut [u8]) -> Fed
     let next = stepped.controller;
     let answer = stepped.answer;
     let text = line(word, answer);
-    bytes::copy(&text, output);
+    copy(&text, output);
     Fed {
         trace: Trace {
             controller: next,
@@ -107,5 +108,5 @@ pub(crate) fn finish(trace: Trace, output: &mut [u8]) -> usize
     let Waiting::High(_) = waiting else {
         return 0;
     };
-    bytes::copy(b"odd\n", output)
+    copy(b"odd\n", output)
 }
