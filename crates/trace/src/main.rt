@@ -37,6 +37,7 @@ fn opened(out: Stdout) -> Piece
 }
 
 // The lines of what a read has given.
+#[tactic(auto, using(lines::proofs::Written::written_holds), unfolding(crate::specs::Pieces::fed_of))]
 fn told(out: Stdout, trace: Trace, input: &[u8]) -> Piece
     requires { length input.now ≤ 8192 }
     ensures { result.trace ≡ trace_fed trace input.now }
@@ -50,6 +51,7 @@ fn told(out: Stdout, trace: Trace, input: &[u8]) -> Piece
 }
 
 // The end of the input.
+#[tactic(auto, using(lines::proofs::Written::written_holds))]
 fn ended(out: Stdout, trace: Trace) -> Piece
     ensures { result ≡ record { trace = trace; more = false } }
 {
@@ -67,6 +69,7 @@ fn failed(err: Stderr, trace: Trace) -> Piece
     Piece { trace, more: false }
 }
 
+#[tactic(auto, using(lines::proofs::Sign::within))]
 fn next_piece(mut input: Stdin, out: Stdout, err: Stderr, trace: Trace) -> Piece {
     let mut piece = [0u8; INPUT];
     // As the system answers it: below 0 where it failed.

@@ -30,6 +30,7 @@ pub struct Fed {
 }
 
 // The header, and the trace of a fresh controller.
+#[tactic(auto, unfolding(crate::specs::Text::header, lines::specs::Text::written, crate::specs::Pieces::begun))]
 pub(crate) fn begin(output: &mut [u8]) -> Fed
     requires { 22 ≤ length output.old }
     ensures value { result ≡ begun }
@@ -46,6 +47,7 @@ pub(crate) fn begin(output: &mut [u8]) -> Fed
 }
 
 // One byte. The first of a word waits; the second completes the word, whose line is put at the start of the buffer.
+#[tactic(auto, unfolding(lines::specs::Text::written, crate::specs::Pieces::lines_fed, crate::specs::Pieces::trace_fed, crate::specs::Pieces::fed_of, pairs::specs::Pairs::words_in, pairs::specs::Pairs::lone_in, crate::specs::Text::lines_of, dock::specs::Run::after, lines::specs::Line::line_of))]
 fn hear(trace: Trace, byte: u8, output: &mut [u8]) -> Fed
     requires { 16 ≤ length output.old }
     ensures value { result ≡ fed_of trace (byte ∷ []) }
@@ -78,6 +80,7 @@ fn hear(trace: Trace, byte: u8, output: &mut [u8]) -> Fed
 }
 
 // A piece of the input. The buffer has room for a line for every two bytes, and for one line more.
+#[tactic(auto, using(lines::proofs::Telling::Heard, lines::proofs::Telling::none_heard, lines::proofs::Telling::byte_most, lines::proofs::Telling::one_more, lines::proofs::Telling::length_kept, lines::proofs::Telling::one_fits, lines::proofs::Telling::all_heard, crate::proofs::Loop::telling), unfolding(crate::specs::Pieces::fed_of))]
 pub(crate) fn feed(trace: Trace, input: &[u8], output: &mut [u8]) -> Fed
     requires { 8 * length input.now + 16 ≤ length output.old }
     ensures value { result ≡ fed_of trace input.now }
@@ -99,6 +102,7 @@ pub(crate) fn feed(trace: Trace, input: &[u8], output: &mut [u8]) -> Fed
 }
 
 // The input has ended: a byte that still waits was a lone last one.
+#[tactic(auto, unfolding(lines::specs::Text::written, crate::specs::Pieces::ending_of, crate::specs::Text::odd_for, crate::specs::Text::odd))]
 pub(crate) fn finish(trace: Trace, output: &mut [u8]) -> usize
     requires { 4 ≤ length output.old }
     ensures value { result ≡ length (ending_of trace) }
