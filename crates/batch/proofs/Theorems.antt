@@ -8,6 +8,7 @@ use mathlib.Core.List.{List, [], ◌∷◌, ◌++◌, append_assoc}
 use lib.ListN.{length, get_or, take, drop, take-append-drop}
 use lib.Seq.{take_at, drop_at, drop-cons, length-take-le}
 use denote.Ref.{Bor}
+use denote.MutBor.{MutBor}
 use Rattle.machine.specs.Record.{fits}
 use Rattle.dock.specs.Step.{step_of}
 use Rattle.dock.specs.Run.{after, answers_to}
@@ -140,7 +141,7 @@ count_determined o r s p q = p ∙ sym q
 
 -- Of a batch also the buffer that it leaves.
 pub batch_determined :
-    (κs : _) (s : Controller) (words records : Bor (List ℕ)) (r r' : Batched) (left left' : Bor (List ℕ))
+    (κs : _) (s : Controller) (words : Bor (List ℕ)) (records : MutBor (List ℕ)) (r r' : Batched) (left left' : MutBor (List ℕ))
     → batch_reads.Post κs (s, (words, (records, tt))) r (s, (words, (left, tt)))
     → batch_reads.Post κs (s, (words, (records, tt))) r' (s, (words, (left', tt)))
     → (r ≡ r') × (left.now ≡ left'.now)

@@ -4,9 +4,6 @@ pub mod Looked
 pub mod Loudest
 pub mod Rounds
 pub mod Loops
-pub mod Turns
-pub mod Plain
-pub mod Row
 pub mod ByValue
 pub mod WrittenOut
 pub mod Places

@@ -1,7 +1,9 @@
 -- One record more in each of the two loops over a list: what has been looked at, and what has been passed and gathered, after i records and after one
 -- more. By induction along the list. Assumes nothing.
 use mathlib.Core.Path.{◌≡◌, refl, sym, ◌∙◌, ap}
-use Prim.Native.Nat.{ℕ, zero, suc, ◌+◌, ◌<◌, ◌≤◌}
+use Prim.Native.Nat.{ℕ, zero, suc, ◌+◌, ◌<◌, ◌≤◌, zero-le}
+use mathlib.Core.Bool.{Bool, true, false, cond}
+use lib.Dec.{ltb}
 use native.Mathlib.Nat.{not-suc-le-zero, le_of_suc-le-suc}
 use native.Mathlib.Numerals.{add-one}
 use native.Mathlib.Omega.{arith}
@@ -13,10 +15,18 @@ use Rattle.chassis.specs.declared.Round.{Round}
 use Rattle.chassis.specs.declared.Seen.{Seen}
 use Rattle.chassis.specs.declared.Verdict.{Verdict}
 use Rattle.chassis.specs.declared.Verdict.TheVariants.{Sent, Refused}
-use Rattle.chassis.specs.Looking.{seen_with, seen_to}
+use Rattle.chassis.specs.Looking.{looked_at, seen_with, seen_to}
 use Rattle.chassis.specs.Passing.{passed_of, places_by, records_to, round_to}
 
 -- ---- looking
+
+-- No more are looked at than there are.
+pub looked_within : (n : ℕ) → looked_at n ≤ n
+looked_within n = go (ltb 4 n)
+  where
+    go : (t : Bool) → cond t 0 n ≤ n
+    go true = zero-le
+    go false = omega arith
 
 pub seen_none : (s : Seen) (cs : List Controller) → seen_to s 0 cs ≡ s
 unfolding seen_to

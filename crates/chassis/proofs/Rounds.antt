@@ -75,7 +75,7 @@ module _ (e : Event) (n w : ℕ) where
   unfolding records_to records_from
   records_from_lem a os p [] h = refl
   records_from_lem a os p (c ∷ cs) h =
-      rw (one a os p c (omega arith)) (ap (λ (l : List Controller). record_at e n w p c ∷ l) (records_from_lem _ _ (suc p) cs (omega arith)))
+      rw (one a os p c (omega arith)) (ap (λ (l : List Controller). record_at e n w p c ∷ l) (records_from_lem (louder a (reply_at e n w p c)) (set os p (shown (record_at e n w p c))) (suc p) cs (omega arith)))
 
   told_from :
       (a : Reply) (os : List ℕ) (p : ℕ) (cs : List Controller) → p + length cs ≤ 4
@@ -84,7 +84,7 @@ module _ (e : Event) (n w : ℕ) where
   unfolding round_to records_from replies_from
   told_from a os p [] h = refl
   told_from a os p (c ∷ cs) h =
-      ap (λ (x : Passed). told_after (Sent e) (round_to sent x.round (length cs) cs)) (one a os p c (omega arith)) ∙ told_from _ _ (suc p) cs (omega arith)
+      ap (λ (x : Passed). told_after (Sent e) (round_to sent x.round (length cs) cs)) (one a os p c (omega arith)) ∙ told_from (louder a (reply_at e n w p c)) (set os p (shown (record_at e n w p c))) (suc p) cs (omega arith)
 
 -- ---- any verdict
 

@@ -8,7 +8,6 @@ use crate::{Answer, Chassis, Lent, MOST, Refusal, Stepped, Told};
 use dock::Controller;
 
 // The first so many of four places are lent as a list.
-#[tactic(auto, using(crate::proofs::Plain::R, crate::proofs::Plain::vals, crate::proofs::Plain::is_val, crate::proofs::Plain::by_val, crate::proofs::Row::Four, crate::proofs::Row::four_ty, crate::proofs::Row::four_vals, crate::proofs::Row::four_val, crate::proofs::Row::past, crate::proofs::Row::apart, crate::proofs::Row::together, crate::proofs::Row::as_row, crate::proofs::Row::as_local, crate::proofs::Row::field_val_lem, crate::proofs::Row::field_is, crate::proofs::Row::few_fit))]
 fn lend(records: [Controller; MOST], count: usize, named: usize, word: u16) -> Lent
     requires { count ≤ MOST }
     ensures { result ≡ lent_of records count named word }

@@ -53,7 +53,6 @@ impl Seen {
     }
 }
 
-#[tactic(auto, using(crate::proofs::Loops::seen_none, crate::proofs::Loops::seen_next, crate::proofs::Turns::tests, crate::proofs::Turns::place_fits, crate::proofs::Turns::next_fits, crate::proofs::Turns::next_within, crate::proofs::Turns::nearer, crate::proofs::Plain::R, crate::proofs::Plain::vals, crate::proofs::Plain::is_val, crate::proofs::Plain::by_val))]
 pub(crate) fn look(list: &[Controller]) -> Seen
     ensures { result ≡ seen_to begun (looked_at (length list.now)) list.now }
 {

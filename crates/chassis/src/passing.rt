@@ -124,7 +124,6 @@ impl Errand {
     }
 }
 
-#[tactic(auto, using(crate::proofs::Loops::places_within, crate::proofs::Loops::records_none, crate::proofs::Loops::round_none, crate::proofs::Loops::records_length, crate::proofs::Loops::records_next, crate::proofs::Loops::round_next, crate::proofs::Turns::tests, crate::proofs::Turns::place_fits, crate::proofs::Turns::next_fits, crate::proofs::Turns::next_within, crate::proofs::Turns::nearer, crate::proofs::Plain::R, crate::proofs::Plain::vals, crate::proofs::Plain::is_val, crate::proofs::Plain::by_val))]
 pub(crate) fn pass(list: &mut [Controller], errand: Errand) -> Round
     ensures { PassedAll errand list.old list.new result }
 {

@@ -32,7 +32,7 @@ impl Errand {
 }
 
 // The record that PINS or RESET names counts from 0, and is looked at for these two alone.
-#[tactic(auto, using(crate::proofs::Looked::judged_seen, crate::proofs::Rounds::passed_records, crate::proofs::Rounds::passed_told, crate::proofs::Plain::R, crate::proofs::Plain::is_val, crate::proofs::Plain::by_val))]
+#[tactic(auto, using(crate::proofs::Looked::judged_seen, crate::proofs::Rounds::passed_records, crate::proofs::Rounds::passed_told))]
 pub fn step(list: &mut [Controller], named: usize, word: u16) -> Told
     ensures { Called list.old named word list.new result }
 {

@@ -126,7 +126,6 @@ fn progress_from(which: u8, first: u8, second: u8) -> Progress
 }
 
 // No byte is above 1. It looks at all of them, which compiles to a few comparisons.
-#[tactic(auto, using(crate::proofs::Flags::all_next))]
 fn all_flags(flags: &[u8]) -> bool
     ensures { result ≡ all_flags flags.now }
 {
@@ -140,7 +139,6 @@ fn all_flags(flags: &[u8]) -> bool
 }
 
 // How many bytes come before the first above 1.
-#[tactic(auto, using(crate::proofs::Flags::Passed, crate::proofs::Flags::none_passed, crate::proofs::Flags::pass_next, crate::proofs::Flags::found, crate::proofs::Flags::all_passed))]
 fn first_over(flags: &[u8]) -> usize
     ensures value { result ≡ first_over flags.now }
     ensures bounded { result ≤ length flags.now }

@@ -4,7 +4,7 @@ use Prim.Native.Nat.{ℕ, zero, suc, ◌-◌, ◌<◌, ◌≤◌, ◌%◌}
 use native.Mathlib.Omega.{arith}
 use mathlib.Core.Path.{◌≡◌, sym, subst, refl}
 use mathlib.Core.Logic.{◌↔◌}
-use mathlib.Core.Bool.{Bool, true, not, ◌&&◌, and-eq-true_iff}
+use mathlib.Core.Bool.{Bool, true, false, not, ◌&&◌, and-eq-true_iff}
 use lib.Dec.{eqb, ltb}
 use borrow.Author.Tests.{lt-ltb, le-leb, ltb-true, leb-true, ltb-false}
 use Rattle.bits.specs.Straps.{MOST_STRAPS}
@@ -107,7 +107,8 @@ reset_parts straps levels short m l f =
     }
   where
     letr_small : (k : Kind) (short : Bool) → letr_after_reset k short ≤ 3
-    letr_small First short = pick (λ n. n ≤ 3) {m = 0} {n = 1} short (λ _. omega arith) (λ _. omega arith)
+    letr_small First true = omega arith
+    letr_small First false = omega arith
     letr_small Second short = omega arith
 
     count_small : (k : Kind) → count_after_reset k ≤ 3

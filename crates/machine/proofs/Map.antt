@@ -4,7 +4,7 @@ use Prim.Native.Nat.{ℕ, zero, suc, ◌+◌, ◌*◌, ◌/◌, ◌%◌, ◌-◌
 use native.Mathlib.Omega.{arith}
 use mathlib.Core.Path.{◌≡◌, refl, sym, ap, subst, ◌∙◌}
 use mathlib.Core.Logic.{◌≢◌}
-use mathlib.Core.Bool.{Bool, true, false, cond, ◌||◌, true≢false, not}
+use mathlib.Core.Bool.{Bool, true, false, cond, ◌||◌, true≢false}
 use mathlib.Core.List.{List, [], ◌∷◌, map}
 use lib.Dec.{eqb}
 use borrow.Author.Tests.{eq-eqb, ne_eqb}
@@ -27,7 +27,6 @@ use Rattle.machine.proofs.Choice.{chosen, passed}
 use Rattle.machine.proofs.Addresses.{write_steady, in_first, in_second}
 use Rattle.kind.specs.declared.Kind.TheVariants.{First, Second}
 use Rattle.kind.specs.declared.Kind.{Kind}
-use Rattle.bay.specs.Moves.{begins}
 use Rattle.kind.specs.Kind.{is_second}
 use Rattle.machine.specs.SecondKind.{second_writes, second_written}
 
@@ -63,7 +62,7 @@ pub record Reads (m : Machine) : Type 0 where
 -- What a kind makes of BSTR.
 bstr_first : (m : Machine) (i : ℕ) → m.kind ≡ First → bstr_of (hides m) (secured m) (bay_at m i) ≡ bstr_of false true (bay_at m i)
 unfolding hides secured
-bstr_first m i e = ap (λ k. bstr_of (is_second k) (not (is_second k) || m.shared.seclock) (bay_at m i)) e
+bstr_first m i e = rw e
 
 reads_on : (m : Machine) → m.kind ≡ First → m.started ≡ true → (a : ℕ) → reading m a ≡ first_register m a
 unfolding reading register

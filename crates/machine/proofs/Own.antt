@@ -4,7 +4,7 @@ use Prim.Native.Nat.{ℕ}
 use mathlib.Core.Path.{◌≡◌, refl, sym, ap, ◌∙◌}
 use Rattle.machine.specs.InForce.{written}
 use Rattle.machine.specs.declared.Act.TheVariants.{Tick, Write, Name, Pins, Read, Reset}
-use Rattle.second.specs.First.{Write as Once, written as written_once, first_of, for_sfr, form_factor, sfr, written_all}
+use Rattle.second.specs.First.{Write as Once, written as written_once, first_of, for_sfr, form_factor, written_all}
 use Rattle.second.specs.declared.Second.{Second as Registers}
 use Rattle.machine.proofs.Addresses.{found, Each, in_first, in_second}
 use Rattle.machine.specs.declared.Act.{Act}

@@ -29,7 +29,6 @@ use Rattle.machine.proofs.Map.{unlocking}
 use Rattle.machine.proofs.After.{bay_after_lem}
 use Rattle.machine.proofs.Moves.{moves, bcer_write_lem}
 use Rattle.kind.specs.declared.Kind.TheVariants.{First, Second}
-use Rattle.bay.specs.Happens.{bcer}
 use Rattle.kind.specs.Kind.{is_second}
 
 -- The machine after so many TICKs.

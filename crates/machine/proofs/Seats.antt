@@ -31,7 +31,6 @@ use Rattle.machine.specs.declared.Act.TheVariants.{Write, Read, Pins, Tick, Rese
 use Rattle.machine.proofs.After.{bay_after_lem, of_write, three}
 use Rattle.machine.proofs.Moves.{moves}
 use Rattle.machine.proofs.Happens.{act_happens, act_open, bay_run, open_run, act_kind, kind_run}
-use Rattle.second.specs.Record.{reset}
 
 -- A bay in which a wait runs is open: the record of a closed one is empty.
 waits_open : (m : Machine) → Sound m → (i : ℕ) → 0 < wait_of m i → is_open m i ≡ true

@@ -1,5 +1,5 @@
 -- The machine's record: fresh, fit, and its parts by name (document 01, "Replies and refusal numbers" and "Registers"; document 03, "State").
-use Rattle.std.specs.Prelude.{ℕ, Bool, true, false, not, cond, ◌&&◌, ◌||◌, List, [], ◌∷◌, eqb, ltb, leb, get_or}
+use Rattle.std.specs.Prelude.{ℕ, Bool, false, not, cond, ◌&&◌, ◌||◌, List, [], ◌∷◌, eqb, ltb, leb, get_or}
 use Rattle.bits.specs.Straps.{MOST_STRAPS}
 use Rattle.bay.specs.Record.{no_bay, empty_bay, bay_fit}
 use Rattle.bay.specs.declared.Bay.{Bay}

@@ -1,6 +1,6 @@
 -- The cases of a put and of a take, of which one always holds, and no two; what each leaves waiting; and that a fit record stays fit. Assumes
 -- nothing.
-use Prim.Native.Nat.{ℕ, ◌+◌, ◌-◌}
+use Prim.Native.Nat.{ℕ}
 use native.Mathlib.Omega.{arith}
 use native.Mathlib.Nat.{add-zero, add-suc}
 use mathlib.Core.Path.{◌≡◌, refl}

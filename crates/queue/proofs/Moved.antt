@@ -1,6 +1,6 @@
 -- No word is lost, none comes twice and none overtakes another: each call moves one word, or none, from those accepted behind those waiting, or
 -- from the front of these to those taken. Assumes nothing.
-use Prim.Native.Nat.{ℕ, ◌+◌}
+use Prim.Native.Nat.{ℕ}
 use mathlib.Core.Path.{◌≡◌, refl, sym, ap, ◌∙◌}
 use mathlib.Core.Logic.{◌≢◌}
 use mathlib.Core.Bool.{Bool, true, false}

@@ -2,7 +2,7 @@
 -- further, and a place comes again only after 128 of them. Assumes nothing.
 use Prim.Native.Nat.{ℕ, zero, suc, ◌+◌, ◌-◌, ◌%◌, ◌<◌}
 use native.Mathlib.Omega.{arith}
-use mathlib.Core.Path.{◌≡◌, refl, ap}
+use mathlib.Core.Path.{◌≡◌, refl, sym, ap, ◌∙◌}
 use mathlib.Core.Logic.{◌≢◌}
 use mathlib.Core.Bool.{Bool, true, false, cond}
 use mathlib.Core.List.{List, [], ◌∷◌, ◌++◌}
@@ -46,8 +46,11 @@ counted ring at (suc n) = ap suc (counted ring ((at + 1) % 128) n)
 pub one_more : (ring : List ℕ) (at n w : ℕ) → length ring ≡ 128 → at < 128 → n < 128 → words_from (set ring (place at n) w) at (suc n) ≡ words_from ring at n ++ (w ∷ [])
 one_more ring at zero w len l b = rw (here at l, get_or-set_same ring at w 0 (rw len l)) refl
 one_more ring at (suc m) w len l b =
-    rw (get_or-set_other ring (place at (suc m)) at w 0 (elsewhere at m l b), round at m)
-    (ap (λ ws. get_or ring at 0 ∷ ws) (one_more ring ((at + 1) % 128) m w len (within at 1) (omega (arith, b))))
+    let kept : get_or (set ring (place ((at + 1) % 128) m) w) at 0 ≡ get_or ring at 0 =
+    get_or-set_other ring (place ((at + 1) % 128) m) at w 0 (λ e. elsewhere at m l b (e ∙ sym (round at m))) in
+    ap (λ (p : ℕ). words_from (set ring p w) at (suc (suc m))) (round at m)
+    ∙ ap (λ (x : ℕ). x ∷ words_from (set ring (place ((at + 1) % 128) m) w) ((at + 1) % 128) (suc m)) kept
+    ∙ ap (λ ws. get_or ring at 0 ∷ ws) (one_more ring ((at + 1) % 128) m w len (within at 1) (omega (arith, b)))
 
 -- ---- the oldest before the others
 

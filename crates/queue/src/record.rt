@@ -5,6 +5,7 @@ ghost use Rattle.queue.specs.Record.{empty_queue, in_range};
 use crate::{PLACES, Queue};
 
 impl Queue {
+    #[tactic(auto, unfolding(crate::specs::Record::empty_queue))]
     pub fn empty() -> Queue
         ensures { result ≡ empty_queue }
     {
@@ -17,6 +18,7 @@ impl Queue {
 }
 
 // Whether a record with this start and this count is fit. It takes the two numbers, so that no ring is copied for it.
+#[tactic(auto, unfolding(crate::specs::Record::in_range))]
 pub(crate) fn fit(start: u16, count: u16) -> bool
     ensures { result ≡ in_range start count }
 {

@@ -24,6 +24,7 @@ impl Queue {
     }
 
     // Puts a word behind those that wait. Refusals 1 and 7, in that order.
+    #[tactic(auto, unfolding(crate::specs::Record::in_range, crate::specs::Turns::put_of))]
     pub fn put(self, word: u16) -> Answer
         ensures { result ≡ put_of self word }
     {
@@ -44,6 +45,7 @@ impl Queue {
     }
 
     // Takes the word that has waited longest; the ring stays as it is. Refusals 1 and 8, in that order.
+    #[tactic(auto, unfolding(crate::specs::Record::in_range, crate::specs::Turns::take_of))]
     pub fn take(self) -> Answer
         ensures { result ≡ take_of self }
     {

@@ -7,7 +7,7 @@ use mathlib.Core.List.{List, [], ◌∷◌}
 use lib.Dec.{eqb}
 use lib.ListN.{length, get_or, drop, length-drop}
 use borrow.Author.Tests.{eqb-true, eq-eqb}
-use denote.Ref.{Bor}
+use denote.Ref.{Bor, MutBor}
 use Rattle.pairs.specs.Pairs.{bytes_of}
 use Rattle.pairs.proofs.Pairs.{word_back, high_back, low_back, bytes_length, read_again, words_length, written_again}
 use Rattle.queue.specs.declared.Queue.{Queue}
@@ -73,18 +73,18 @@ bytes_back bytes h o = go bytes (parts bytes h) o
 -- ---- the contracts determine their answers
 
 pub save_determined :
-    (κs : _) (q : Queue) (image left left' : Bor (List ℕ)) → save_reads.Post κs (q, (image, tt)) tt (q, (left, tt)) → save_reads.Post κs (q, (image, tt)) tt (q, (left', tt))
+    (κs : _) (q : Queue) (image left left' : MutBor (List ℕ)) → save_reads.Post κs (q, (image, tt)) tt (q, (left, tt)) → save_reads.Post κs (q, (image, tt)) tt (q, (left', tt))
     → left.now ≡ left'.now
 save_determined κs q image left left' p p' = p ∙ sym p'
 
 pub save_put_determined :
-    (κs : _) (q : Queue) (w : ℕ) (image left left' : Bor (List ℕ))
+    (κs : _) (q : Queue) (w : ℕ) (image left left' : MutBor (List ℕ))
     → save_put_reads.Post κs (q, (w, (image, tt))) tt (q, (w, (left, tt))) → save_put_reads.Post κs (q, (w, (image, tt))) tt (q, (w, (left', tt)))
     → left.now ≡ left'.now
 save_put_determined κs q w image left left' p p' = p ∙ sym p'
 
 pub save_take_determined :
-    (κs : _) (q : Queue) (image left left' : Bor (List ℕ))
+    (κs : _) (q : Queue) (image left left' : MutBor (List ℕ))
     → save_take_reads.Post κs (q, (image, tt)) tt (q, (left, tt)) → save_take_reads.Post κs (q, (image, tt)) tt (q, (left', tt))
     → left.now ≡ left'.now
 save_take_determined κs q image left left' p p' = p ∙ sym p'

@@ -8,6 +8,7 @@ use pairs::wide;
 use queue::{PLACES, Queue};
 
 // Whether bytes are the image of a queue, fit or not.
+#[tactic(auto, unfolding(crate::specs::Load::is_image))]
 pub fn is_image(image: &[u8]) -> bool
     ensures { result ≡ is_image image.now }
 {
@@ -19,6 +20,7 @@ pub fn is_image(image: &[u8]) -> bool
 
 // The queue of as many bytes as an image has. The ring comes first, into the record itself: where start and count are all
 // that is looked at, the compiler then leaves the ring out.
+#[tactic(auto, unfolding(crate::specs::Load::queue_in))]
 fn queue_in(image: &[u8]) -> Queue
     requires { length image.now ≡ BYTES }
     ensures { result ≡ queue_in image.now }
@@ -37,6 +39,7 @@ fn queue_in(image: &[u8]) -> Queue
 }
 
 // The queue of an image; an empty one where the bytes are none.
+#[tactic(auto, using(crate::proofs::RoundTrip::parts), unfolding(crate::specs::Load::load_of))]
 pub fn load(image: &[u8]) -> Queue
     ensures { result ≡ load_of image.now }
 {

@@ -9,6 +9,7 @@ use crate::{BYTES, COUNT, LAYOUT, START, VERSION, WORDS};
 use queue::{PLACES, Queue};
 
 // Writes start and count.
+#[tactic(auto, unfolding(pairs::specs::Pairs::bytes_of))]
 fn numbers(start: u16, count: u16, image: &mut [u8])
     requires { length image.old ≡ BYTES }
     ensures { image.new ≡ over START (bytes_of (start ∷ count ∷ [])) image.old }
@@ -17,6 +18,7 @@ fn numbers(start: u16, count: u16, image: &mut [u8])
 }
 
 // Writes the image of a queue into bytes that are as many as an image has; others stay as they are.
+#[tactic(auto, unfolding(crate::specs::Save::saved_in, crate::specs::Save::saved, pairs::specs::Pairs::bytes_of))]
 pub fn save(queue: Queue, image: &mut [u8])
     ensures { image.new ≡ saved_in queue image.old }
 {
@@ -38,6 +40,7 @@ fn newest(start: u16, count: u16) -> usize
 
 // After a put of this word, what it changed: the count, and the word at its place. The word comes by itself, so that
 // nobody looks for it in the ring.
+#[tactic(auto, unfolding(crate::specs::Save::put_in, pairs::specs::Pairs::bytes_of))]
 pub fn save_put(queue: Queue, word: u16, image: &mut [u8])
     ensures { image.new ≡ put_in queue word image.old }
 {
@@ -50,6 +53,7 @@ pub fn save_put(queue: Queue, word: u16, image: &mut [u8])
 }
 
 // After a take, what it changed: start and count.
+#[tactic(auto, unfolding(crate::specs::Save::take_in))]
 pub fn save_take(queue: Queue, image: &mut [u8])
     ensures { image.new ≡ take_in queue image.old }
 {
