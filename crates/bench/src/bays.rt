@@ -6,6 +6,7 @@ use bits::has;
 use dock::Controller;
 use kind::Kind;
 use machine::{Shared, first_kind, second_kind};
+use std::io::Stdout;
 
 // A register's reading, which is a byte.
 pub(crate) fn read(controller: Controller, register: u8) -> u8 {
@@ -57,48 +58,49 @@ pub(crate) fn look(controller: Controller) -> Seen {
 }
 
 // A bay state by its name.
-pub(crate) fn say_state(state: u8) {
+pub(crate) fn say_state(out: Stdout, state: u8) {
     match state {
-        Bay::EMPTY => say(b"Empty"),
-        Bay::INSERTED => say(b"Inserted"),
-        Bay::ENABLED => say(b"Enabled"),
-        Bay::REMOVAL_REQUESTED => say(b"Removal Requested"),
-        Bay::REMOVAL_ALLOWED => say(b"Removal Allowed"),
-        _ => say(b"no state"),
+        Bay::EMPTY => say(out, b"Empty"),
+        Bay::INSERTED => say(out, b"Inserted"),
+        Bay::ENABLED => say(out, b"Enabled"),
+        Bay::REMOVAL_REQUESTED => say(out, b"Removal Requested"),
+        Bay::REMOVAL_ALLOWED => say(out, b"Removal Allowed"),
+        _ => say(out, b"no state"),
     }
 }
 
-pub(crate) fn say_bay(bstr: u8) {
-    say_state(bstr / 16 % 8);
-    say_if(has(bstr, 2), b", 1394 device");
-    say_if(has(bstr, 1), b", USB device");
-    say_if(bstr % 4 == 0, b", no device");
-    say_if(has(bstr, 8), b", REMREQ_STS");
-    say_if(has(bstr, 4), b", DEVSTSCHG");
-    say_if(has(bstr, 128), b", nSL low");
+pub(crate) fn say_bay(out: Stdout, bstr: u8) {
+    say_state(out, bstr / 16 % 8);
+    say_if(out, has(bstr, 2), b", 1394 device");
+    say_if(out, has(bstr, 1), b", USB device");
+    say_if(out, bstr % 4 == 0, b", no device");
+    say_if(out, has(bstr, 8), b", REMREQ_STS");
+    say_if(out, has(bstr, 4), b", DEVSTSCHG");
+    say_if(out, has(bstr, 128), b", nSL low");
 }
 
-fn say_wait(wait: u16) {
+fn say_wait(out: Stdout, wait: u16) {
     if wait != 0 {
-        say(b", seats for ");
-        say_count(wait as u64);
-        say_either(wait == 1, b" tick more", b" ticks more");
+        say(out, b", seats for ");
+        say_count(out, wait as u64);
+        say_either(out, wait == 1, b" tick more", b" ticks more");
     }
 }
 
 // A bay's line: its BSTR and its wait, then its power, lock pin, green and yellow, bit 3 to 0.
-fn tell_bay(name: &[u8], bstr: u8, wait: u16, pins: u8) {
-    say(name);
-    say_bay(bstr);
-    say_wait(wait);
-    say_either(has(pins, 8), b"; power on", b"; power off");
-    say_either(has(pins, 4), b", lock pin high", b", lock pin low");
-    say_either(has(pins, 2), b", green on", b", green off");
-    say_either(has(pins, 1), b", yellow on\n", b", yellow off\n");
+fn tell_bay(out: Stdout, name: &[u8], bstr: u8, wait: u16, pins: u8) {
+    say(out, name);
+    say_bay(out, bstr);
+    say_wait(out, wait);
+    say_either(out, has(pins, 8), b"; power on", b"; power off");
+    say_either(out, has(pins, 4), b", lock pin high", b", lock pin low");
+    say_either(out, has(pins, 2), b", green on", b", green off");
+    say_either(out, has(pins, 1), b", yellow on\n", b", yellow off\n");
 }
 
-fn tell_bay_0(seen: Seen) {
+fn tell_bay_0(out: Stdout, seen: Seen) {
     tell_bay(
+        out,
         b"  bay 0: ",
         seen.bstr_0,
         seen.wait_0,
@@ -106,11 +108,12 @@ fn tell_bay_0(seen: Seen) {
     );
 }
 
-fn tell_bay_1(seen: Seen) {
+fn tell_bay_1(out: Stdout, seen: Seen) {
     if seen.one_bay {
-        say(b"  bay 1: closed\n");
+        say(out, b"  bay 1: closed\n");
     } else {
         tell_bay(
+            out,
             b"  bay 1: ",
             seen.bstr_1,
             seen.wait_1,
@@ -119,27 +122,28 @@ fn tell_bay_1(seen: Seen) {
     }
 }
 
-fn tell_interrupt(seen: Seen) {
+fn tell_interrupt(out: Stdout, seen: Seen) {
     say_either(
+        out,
         seen.outputs % 2 == 1,
         b"  interrupt: asserted\n",
         b"  interrupt: not asserted\n",
     );
 }
 
-pub(crate) fn tell_unstarted() {
-    say(b"  no RESET has come yet\n");
+pub(crate) fn tell_unstarted(out: Stdout) {
+    say(out, b"  no RESET has come yet\n");
 }
 
-pub(crate) fn tell_all(seen: Seen) {
+pub(crate) fn tell_all(out: Stdout, seen: Seen) {
     if !seen.started {
-        tell_unstarted();
+        tell_unstarted(out);
         return;
     }
-    say_if(seen.second, b"  the second kind is in force\n");
-    tell_bay_0(seen);
-    tell_bay_1(seen);
-    tell_interrupt(seen);
+    say_if(out, seen.second, b"  the second kind is in force\n");
+    tell_bay_0(out, seen);
+    tell_bay_1(out, seen);
+    tell_interrupt(out, seen);
 }
 
 // A wait begins or is over; that it falls tick by tick is no news.
@@ -168,14 +172,14 @@ pub(crate) fn differs(before: Seen, after: Seen) -> bool {
     bay_0_differs(before, after) | bay_1_differs(before, after) | interrupt_differs(before, after)
 }
 
-pub(crate) fn tell_changes(before: Seen, after: Seen) {
+pub(crate) fn tell_changes(out: Stdout, before: Seen, after: Seen) {
     if bay_0_differs(before, after) {
-        tell_bay_0(after);
+        tell_bay_0(out, after);
     }
     if bay_1_differs(before, after) {
-        tell_bay_1(after);
+        tell_bay_1(out, after);
     }
     if interrupt_differs(before, after) {
-        tell_interrupt(after);
+        tell_interrupt(out, after);
     }
 }

@@ -4,33 +4,34 @@ use crate::docks::{is_on, record_at};
 use crate::say::{say, say_count};
 use chassis::Chassis;
 use dock::Controller;
+use std::io::Stdout;
 
 pub(crate) fn are_several(chassis: Chassis) -> bool {
     1 < chassis.count
 }
 
 // The line that the lines of one of several docks stand under.
-fn tell_number(chassis: Chassis, dock: u8) {
+fn tell_number(out: Stdout, chassis: Chassis, dock: u8) {
     if are_several(chassis) {
-        say(b"  dock ");
-        say_count(dock as u64);
-        say(b":\n");
+        say(out, b"  dock ");
+        say_count(out, dock as u64);
+        say(out, b":\n");
     }
 }
 
 // Everything of one dock.
-pub(crate) fn tell_dock(chassis: Chassis, dock: u8) {
+pub(crate) fn tell_dock(out: Stdout, chassis: Chassis, dock: u8) {
     if is_on(chassis, dock) {
-        tell_number(chassis, dock);
-        tell_all(look(record_at(chassis, dock)));
+        tell_number(out, chassis, dock);
+        tell_all(out, look(record_at(chassis, dock)));
     }
 }
 
-pub(crate) fn tell_every(chassis: Chassis) {
-    tell_dock(chassis, 0);
-    tell_dock(chassis, 1);
-    tell_dock(chassis, 2);
-    tell_dock(chassis, 3);
+pub(crate) fn tell_every(out: Stdout, chassis: Chassis) {
+    tell_dock(out, chassis, 0);
+    tell_dock(out, chassis, 1);
+    tell_dock(out, chassis, 2);
+    tell_dock(out, chassis, 3);
 }
 
 fn changed(before: Chassis, after: Chassis, dock: u8) -> bool {
@@ -47,19 +48,23 @@ pub(crate) fn any_changed(before: Chassis, after: Chassis) -> bool {
         | changed(before, after, 3)
 }
 
-fn tell_changed(before: Chassis, after: Chassis, dock: u8) {
+fn tell_changed(out: Stdout, before: Chassis, after: Chassis, dock: u8) {
     if changed(before, after, dock) {
-        tell_number(after, dock);
-        tell_changes(look(record_at(before, dock)), look(record_at(after, dock)));
+        tell_number(out, after, dock);
+        tell_changes(
+            out,
+            look(record_at(before, dock)),
+            look(record_at(after, dock)),
+        );
     }
 }
 
 // What changed of each.
-pub(crate) fn tell_all_changed(before: Chassis, after: Chassis) {
-    tell_changed(before, after, 0);
-    tell_changed(before, after, 1);
-    tell_changed(before, after, 2);
-    tell_changed(before, after, 3);
+pub(crate) fn tell_all_changed(out: Stdout, before: Chassis, after: Chassis) {
+    tell_changed(out, before, after, 0);
+    tell_changed(out, before, after, 1);
+    tell_changed(out, before, after, 2);
+    tell_changed(out, before, after, 3);
 }
 
 // The dock answers at the address byte of a command.

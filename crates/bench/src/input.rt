@@ -2,7 +2,7 @@
 ghost use Rattle.std.specs.Prelude.{◌≤◌, length};
 
 use crate::Typed;
-use libc::STDIN_FILENO;
+use std::io::{Read, Stdin};
 
 // Puts a character at a place of the buffer and answers the next place, the same one where the buffer is full.
 pub(crate) fn put(text: &mut [u8], at: usize, c: u8) -> usize
@@ -17,15 +17,14 @@ pub(crate) fn put(text: &mut [u8], at: usize, c: u8) -> usize
 }
 
 // Reads a line into the buffer. What has no place there is read and let go.
-pub(crate) fn read_line(text: &mut [u8]) -> Typed
+pub(crate) fn read_line(mut input: Stdin, text: &mut [u8]) -> Typed
     ensures { result.length ≤ length text.new }
 {
     let mut length = 0;
     let mut longer = false;
-    let mut left = u64::MAX;
-    while left > 0 {
+    for _ in 0..u64::MAX {
         let mut one = [0u8; 1];
-        if io::read_full(STDIN_FILENO, &mut one) == 0 {
+        if input.read_exact(&mut one).is_err() {
             break;
         }
         let c = one[0];
@@ -39,7 +38,6 @@ pub(crate) fn read_line(text: &mut [u8]) -> Typed
         let next = put(text, length, c);
         longer = longer | (next == length);
         length = next;
-        left -= 1;
     }
     Typed {
         length,

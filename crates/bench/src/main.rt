@@ -24,9 +24,9 @@ ghost use Rattle.bench.specs.Orders.{heeded};
 use chassis::{Answer, Chassis, MOST};
 use help::{tell_longer, tell_mishandling, tell_misuse, tell_unknown, tell_wrong};
 use input::read_line;
-use libc::STDIN_FILENO;
 use say::{said, say, say_if};
 use script::Line;
+use std::io::{IsTerminal, Stdin, Stdout};
 
 // The docks on the bus, and what the lines to come depend on besides.
 #[derive(Clone, Copy)]
@@ -100,7 +100,7 @@ struct Done {
 const LONGEST: usize = 255;
 
 // What a line does: one that isn't understood changes nothing.
-fn heed(bench: Bench, number: u64, line: &[u8]) -> Heeded
+fn heed(out: Stdout, bench: Bench, number: u64, line: &[u8]) -> Heeded
     ensures { result ≡ heeded line.now bench }
 {
     match script::meaning(line) {
@@ -109,49 +109,49 @@ fn heed(bench: Bench, number: u64, line: &[u8]) -> Heeded
             understood: true,
         },
         Line::Unknown => {
-            tell_unknown(number);
+            tell_unknown(out, number);
             Heeded {
                 bench,
                 understood: false,
             }
         }
         Line::Misused(verb) => {
-            tell_misuse(number, verb);
+            tell_misuse(out, number, verb);
             Heeded {
                 bench,
                 understood: false,
             }
         }
         Line::Mishandled(hand) => {
-            tell_mishandling(number, hand);
+            tell_mishandling(out, number, hand);
             Heeded {
                 bench,
                 understood: false,
             }
         }
         Line::Does(order) => Heeded {
-            bench: bench.obey(order, script::argument(line)),
+            bench: bench.obey(out, order, script::argument(line)),
             understood: true,
         },
     }
 }
 
 // A person sees a sign that a line is awaited; answers whether anybody reads it.
-fn ask(typing: bool) -> bool {
+fn ask(out: Stdout, typing: bool) -> bool {
     if !typing {
         return true;
     }
-    said(b"> ")
+    said(out, b"> ")
 }
 
 // Of a script the line itself is told; answers whether anybody reads it.
-fn echo(typing: bool, line: &[u8]) -> bool {
+fn echo(out: Stdout, typing: bool, line: &[u8]) -> bool {
     if typing {
         return true;
     }
-    say_if(0 < line.len(), b"> ");
-    say(line);
-    said(b"\n")
+    say_if(out, 0 < line.len(), b"> ");
+    say(out, line);
+    said(out, b"\n")
 }
 
 // The end, with nothing done.
@@ -166,23 +166,23 @@ fn end(bench: Bench) -> Done {
 }
 
 // One line. Where nobody reads what is told, none is taken any more.
-fn turn(bench: Bench, number: u64, typing: bool) -> Done {
+fn turn(input: Stdin, out: Stdout, bench: Bench, number: u64, typing: bool) -> Done {
     let mut text = [0u8; LONGEST];
-    if !ask(typing) {
+    if !ask(out, typing) {
         return end(bench);
     }
-    let typed = read_line(&mut text);
+    let typed = read_line(input, &mut text);
     let length = typed.length;
     let line = &text[..length];
     if typed.ended & (length == 0) {
-        say_if(typing, b"\n");
+        say_if(out, typing, b"\n");
         return end(bench);
     }
-    if !echo(typing, line) {
+    if !echo(out, typing, line) {
         return end(bench);
     }
     if typed.longer {
-        tell_longer(number);
+        tell_longer(out, number);
         return Done {
             heeded: Heeded {
                 bench,
@@ -192,19 +192,20 @@ fn turn(bench: Bench, number: u64, typing: bool) -> Done {
         };
     }
     Done {
-        heeded: heed(bench, number, line),
+        heeded: heed(out, bench, number, line),
         more: !typed.ended,
     }
 }
 
 // A proved loop ends, and nothing says that an input does: the lines are counted up to a number that no run reaches.
-fn main() {
-    let typing = libc::isatty(STDIN_FILENO) == 1;
+fn main(rt: HostRuntime) {
+    let input = rt.stdin();
+    let out = rt.stdout();
+    let typing = input.is_terminal();
     let mut bench = Bench::fresh();
-    let mut number: u64 = 1;
     let mut wrong: u64 = 0;
-    while number < u64::MAX {
-        let done = turn(bench, number, typing);
+    for number in 1..u64::MAX {
+        let done = turn(input, out, bench, number, typing);
         let heeded = done.heeded;
         if !heeded.understood {
             wrong += 1;
@@ -213,7 +214,6 @@ fn main() {
             break;
         }
         bench = heeded.bench;
-        number += 1;
     }
-    tell_wrong(wrong);
+    tell_wrong(out, wrong);
 }

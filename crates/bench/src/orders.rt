@@ -20,36 +20,37 @@ use chassis::{Answer, Chassis, MOST};
 use dock::Controller;
 use event::Event;
 use script::Order;
+use std::io::Stdout;
 
 // What one word did. After a RESET everything of its dock is told, since everything is new.
-fn tell_one(before: Bench, word: u16, answer: Answer, after: Bench) {
+fn tell_one(out: Stdout, before: Bench, word: u16, answer: Answer, after: Bench) {
     if is_reset(word) & (answer.refusal() == 0) {
         let chassis = after.chassis;
-        say(b"\n");
-        tell_dock(chassis, after.dock);
+        say(out, b"\n");
+        tell_dock(out, chassis, after.dock);
     } else {
-        tell_end(before, after);
+        tell_end(out, before, after);
     }
 }
 
 // One word.
-fn one(bench: Bench, word: u16) -> Bench
+fn one(out: Stdout, bench: Bench, word: u16) -> Bench
     ensures { result ≡ (sent_of bench word).bench }
 {
-    let sent = send(bench, word);
+    let sent = send(out, bench, word);
     let next = sent.bench;
     let answer = sent.answer;
-    tell_one(bench, word, answer, next);
+    tell_one(out, bench, word, answer, next);
     next
 }
 
 // The call that names a kind: it is no event, and changes nothing that is told besides.
-fn name(bench: Bench, number: u8) -> Bench
+fn name(out: Stdout, bench: Bench, number: u8) -> Bench
     ensures { result ≡ named_as number bench }
 {
     let dock = bench.dock;
     if !is_there(bench) {
-        tell_absent(dock);
+        tell_absent(out, dock);
         return bench;
     }
     let chassis = bench.chassis;
@@ -57,7 +58,7 @@ fn name(bench: Bench, number: u8) -> Bench
     let renamed = record_at(chassis, dock).name(number);
     let controller = renamed.controller;
     let naming = renamed.naming;
-    tell_naming(number, naming);
+    tell_naming(out, number, naming);
     let next = with_record(chassis, dock, controller);
     Bench {
         chassis: next,
@@ -68,12 +69,12 @@ fn name(bench: Bench, number: u8) -> Bench
 }
 
 // What the i-th TICK of a line changed, or why it was refused; answers whether there was anything to tell.
-fn tell_tick(i: u16, answer: Answer, before: Bench, after: Bench) -> bool {
+fn tell_tick(out: Stdout, i: u16, answer: Answer, before: Bench, after: Bench) -> bool {
     if 0 < answer.refusal() {
         if i == 1 {
-            say(b"  TICK");
-            tell_answer(answer, before, word_for(Event::Tick));
-            say(b"\n");
+            say(out, b"  TICK");
+            tell_answer(out, answer, before, word_for(Event::Tick));
+            say(out, b"\n");
         }
         return true;
     }
@@ -81,16 +82,16 @@ fn tell_tick(i: u16, answer: Answer, before: Bench, after: Bench) -> bool {
     let new = after.chassis;
     let changed = any_changed(old, new);
     if changed {
-        say(b"  after tick ");
-        say_count(i as u64);
-        say(b":\n");
-        tell_all_changed(old, new);
+        say(out, b"  after tick ");
+        say_count(out, i as u64);
+        say(out, b":\n");
+        tell_all_changed(out, old, new);
     }
     changed
 }
 
 // So many TICKs.
-fn ticks(bench: Bench, count: u16) -> Bench
+fn ticks(out: Stdout, bench: Bench, count: u16) -> Bench
     ensures { result ≡ after_words bench (replicate count (word_for Tick)) }
 {
     let word = word_for(Event::Tick);
@@ -103,31 +104,31 @@ fn ticks(bench: Bench, count: u16) -> Bench
         let answer = sent.answer;
         state = sent.bench;
         i += 1;
-        quiet = !tell_tick(i, answer, before, state) & quiet;
+        quiet = !tell_tick(out, i, answer, before, state) & quiet;
     }
-    say_if(quiet, b"  no change\n");
+    say_if(out, quiet, b"  no change\n");
     state
 }
 
 // Every register of the chosen dock.
-fn tell_registers_of(bench: Bench) {
+fn tell_registers_of(out: Stdout, bench: Bench) {
     let dock = bench.dock;
     let chassis = bench.chassis;
     if is_there(bench) {
-        tell_registers(record_at(chassis, dock));
+        tell_registers(out, record_at(chassis, dock));
     } else {
-        tell_absent(dock);
+        tell_absent(out, dock);
     }
 }
 
 // Its state as an image.
-fn tell_image_of(bench: Bench) {
+fn tell_image_of(out: Stdout, bench: Bench) {
     let dock = bench.dock;
     let chassis = bench.chassis;
     if is_there(bench) {
-        tell_image(record_at(chassis, dock));
+        tell_image(out, record_at(chassis, dock));
     } else {
-        tell_absent(dock);
+        tell_absent(out, dock);
     }
 }
 
@@ -155,7 +156,7 @@ impl Bench {
     }
 
     // An order, with the word beside its verb.
-    pub(crate) fn obey(self, order: Order, text: &[u8]) -> Bench
+    pub(crate) fn obey(self, out: Stdout, order: Order, text: &[u8]) -> Bench
         ensures { result ≡ obeyed order text.now self }
     {
         let chassis = self.chassis;
@@ -163,19 +164,19 @@ impl Bench {
         let levels = self.levels;
         let here = levels_at(levels, dock);
         match order {
-            Order::Event(event) => one(self, word_for(event)),
-            Order::Pull(inputs) => one(self, word_for(Event::Pins(pulled(here, inputs)))),
-            Order::Raise(inputs) => one(self, word_for(Event::Pins(raised(here, inputs)))),
-            Order::Ticks(count) => ticks(self, count),
-            Order::Word(word) => one(self, word),
+            Order::Event(event) => one(out, self, word_for(event)),
+            Order::Pull(inputs) => one(out, self, word_for(Event::Pins(pulled(here, inputs)))),
+            Order::Raise(inputs) => one(out, self, word_for(Event::Pins(raised(here, inputs)))),
+            Order::Ticks(count) => ticks(out, self, count),
+            Order::Word(word) => one(out, self, word),
             Order::Write {
                 register,
                 value,
                 more,
-            } => write(self, register, value, more, text),
-            Order::Read { register, more } => read(self, register, more),
+            } => write(out, self, register, value, more, text),
+            Order::Read { register, more } => read(out, self, register, more),
             Order::Address(address) => {
-                tell_address(address);
+                tell_address(out, address);
                 Bench {
                     chassis,
                     dock,
@@ -184,29 +185,29 @@ impl Bench {
                 }
             }
             Order::Outputs => {
-                tell_every(chassis);
+                tell_every(out, chassis);
                 self
             }
             Order::Registers => {
-                tell_registers_of(self);
+                tell_registers_of(out, self);
                 self
             }
             Order::Help => {
-                tell_help();
+                tell_help(out);
                 self
             }
             Order::Save => {
-                tell_image_of(self);
+                tell_image_of(out, self);
                 self
             }
-            Order::Load => load(self, text),
-            Order::Name(number) => name(self, number),
+            Order::Load => load(out, self, text),
+            Order::Name(number) => name(out, self, number),
             Order::Docks(count) => {
-                tell_docks(count);
+                tell_docks(out, count);
                 Bench::of(count as usize, self.address)
             }
             Order::Choose(number) => {
-                tell_choice(number, is_on(chassis, number));
+                tell_choice(out, number, is_on(chassis, number));
                 Bench {
                     chassis,
                     dock: number,

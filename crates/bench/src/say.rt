@@ -1,37 +1,37 @@
 // Texts on standard output.
 use hexes::digit;
-use libc::STDOUT_FILENO;
+use std::io::Stdout;
 
 // Answers whether it was taken: it is not where nobody reads any more.
-pub(crate) fn said(text: &[u8]) -> bool {
-    io::write_all(STDOUT_FILENO, text)
+pub(crate) fn said(out: Stdout, text: &[u8]) -> bool {
+    out.write_all(text).is_ok()
 }
 
-pub(crate) fn say(text: &[u8]) {
-    said(text);
+pub(crate) fn say(out: Stdout, text: &[u8]) {
+    said(out, text);
 }
 
-pub(crate) fn say_if(yes: bool, text: &[u8]) {
+pub(crate) fn say_if(out: Stdout, yes: bool, text: &[u8]) {
     if yes {
-        say(text);
+        say(out, text);
     }
 }
 
-pub(crate) fn say_either(yes: bool, one: &[u8], other: &[u8]) {
+pub(crate) fn say_either(out: Stdout, yes: bool, one: &[u8], other: &[u8]) {
     if yes {
-        say(one);
+        say(out, one);
     } else {
-        say(other);
+        say(out, other);
     }
 }
 
 // Two hex digits.
-pub(crate) fn say_byte(n: u16) {
+pub(crate) fn say_byte(out: Stdout, n: u16) {
     let text = [digit(n / 16), digit(n)];
-    say(&text);
+    say(out, &text);
 }
 
 // Decimal.
-pub(crate) fn say_count(n: u64) {
-    io::print_decimal(STDOUT_FILENO, n);
+pub(crate) fn say_count(out: Stdout, n: u64) {
+    let _ = print!(out; "{n}");
 }

@@ -8,6 +8,7 @@ use crate::levels::levels_after;
 use crate::say::say;
 use crate::{Bench, Sent};
 use event::Event;
+use std::io::Stdout;
 
 pub(crate) fn word_for(event: Event) -> u16
     ensures { result ≡ word_for event }
@@ -39,26 +40,26 @@ pub(crate) fn step(bench: Bench, word: u16) -> Sent
 }
 
 // One word, with its event and the answer told.
-pub(crate) fn send(bench: Bench, word: u16) -> Sent
+pub(crate) fn send(out: Stdout, bench: Bench, word: u16) -> Sent
     ensures { result ≡ sent_of bench word }
 {
-    tell_word(word);
+    tell_word(out, word);
     let sent = step(bench, word);
     let answer = sent.answer;
-    tell_answer(answer, bench, word);
+    tell_answer(out, answer, bench, word);
     sent
 }
 
-pub(crate) fn sent(bench: Bench, event: Event) -> Bench
+pub(crate) fn sent(out: Stdout, bench: Bench, event: Event) -> Bench
     ensures { result ≡ (sent_of bench (word_for event)).bench }
 {
-    send(bench, word_for(event)).bench
+    send(out, bench, word_for(event)).bench
 }
 
 // What comes after the events of a line: their end, and what they changed.
-pub(crate) fn tell_end(before: Bench, after: Bench) {
+pub(crate) fn tell_end(out: Stdout, before: Bench, after: Bench) {
     let old = before.chassis;
     let new = after.chassis;
-    say(b"\n");
-    tell_all_changed(old, new);
+    say(out, b"\n");
+    tell_all_changed(out, old, new);
 }

@@ -12,34 +12,42 @@ use crate::{Bench, Took};
 use bus::Reply;
 use chassis::Answer;
 use event::Event;
+use std::io::Stdout;
 
 // The most bytes that a line reads: one of each register.
 const REGISTERS: usize = 256;
 
 // The values of a write after its first, which the text holds.
-fn give(bench: Bench, more: u8, text: &[u8]) -> Bench
+fn give(out: Stdout, bench: Bench, more: u8, text: &[u8]) -> Bench
     ensures { result ≡ after_words bench (map byte_word (further_values text.now more)) }
 {
     let mut state = bench;
     let mut i: u8 = 0;
     while i < more {
-        state = sent(state, Event::Byte(script::further_value(text, i)));
+        state = sent(out, state, Event::Byte(script::further_value(text, i)));
         i += 1;
     }
     state
 }
 
 // A whole write.
-pub(crate) fn write(bench: Bench, register: u8, value: u8, more: u8, text: &[u8]) -> Bench
+pub(crate) fn write(
+    out: Stdout,
+    bench: Bench,
+    register: u8,
+    value: u8,
+    more: u8,
+    text: &[u8],
+) -> Bench
     ensures { result ≡ after_words bench (write_words bench.address register (value ∷ further_values text.now more)) }
 {
-    let opened = sent(bench, Event::Start);
-    let addressed = sent(opened, Event::Byte(bench.address));
-    let chosen = sent(addressed, Event::Byte(register));
-    let given = sent(chosen, Event::Byte(value));
-    let all = give(given, more, text);
-    let next = sent(all, Event::Stop);
-    tell_end(bench, next);
+    let opened = sent(out, bench, Event::Start);
+    let addressed = sent(out, opened, Event::Byte(bench.address));
+    let chosen = sent(out, addressed, Event::Byte(register));
+    let given = sent(out, chosen, Event::Byte(value));
+    let all = give(out, given, more, text);
+    let next = sent(out, all, Event::Stop);
+    tell_end(out, bench, next);
     next
 }
 
@@ -58,7 +66,7 @@ fn keep(given: &mut [u8], at: usize, answer: Answer) -> usize
 }
 
 // The TAKEs of a read, the last without ACK; the bytes that were driven come into the buffer.
-fn take(bench: Bench, more: u8, given: &mut [u8]) -> Took
+fn take(out: Stdout, bench: Bench, more: u8, given: &mut [u8]) -> Took
     ensures bench_value { result.bench ≡ after_words bench (take_words more) }
     ensures count_in_bounds { result.count ≤ length given.new }
 {
@@ -66,13 +74,13 @@ fn take(bench: Bench, more: u8, given: &mut [u8]) -> Took
     let mut count = 0;
     let mut i: u8 = 0;
     while i < more {
-        let taken = send(state, word_for(Event::Take(true)));
+        let taken = send(out, state, word_for(Event::Take(true)));
         let answer = taken.answer;
         state = taken.bench;
         count = keep(given, count, answer);
         i += 1;
     }
-    let last = send(state, word_for(Event::Take(false)));
+    let last = send(out, state, word_for(Event::Take(false)));
     let bench = last.bench;
     let answer = last.answer;
     let count = keep(given, count, answer);
@@ -80,21 +88,21 @@ fn take(bench: Bench, more: u8, given: &mut [u8]) -> Took
 }
 
 // A whole read, and what the bytes say that were driven.
-pub(crate) fn read(bench: Bench, register: u8, more: u8) -> Bench
+pub(crate) fn read(out: Stdout, bench: Bench, register: u8, more: u8) -> Bench
     ensures { result ≡ after_words bench (read_words bench.address register more) }
 {
-    let opened = sent(bench, Event::Start);
-    let addressed = sent(opened, Event::Byte(bench.address));
-    let chosen = sent(addressed, Event::Byte(register));
-    let again = sent(chosen, Event::Start);
-    let decided = sent(again, Event::Byte(bench.address / 2 * 2 + 1));
+    let opened = sent(out, bench, Event::Start);
+    let addressed = sent(out, opened, Event::Byte(bench.address));
+    let chosen = sent(out, addressed, Event::Byte(register));
+    let again = sent(out, chosen, Event::Start);
+    let decided = sent(out, again, Event::Byte(bench.address / 2 * 2 + 1));
     let mut given = [0u8; REGISTERS];
-    let took = take(decided, more, &mut given);
+    let took = take(out, decided, more, &mut given);
     let next = took.bench;
     let count = took.count;
     let chassis = next.chassis;
     let kind = kind_of(answering(chassis, bench.address));
-    tell_end(bench, next);
-    tell_taken(kind, register, &given[..count]);
+    tell_end(out, bench, next);
+    tell_taken(out, kind, register, &given[..count]);
     next
 }

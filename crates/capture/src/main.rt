@@ -14,18 +14,20 @@ ghost use Rattle.std.specs.Prelude.{◌+◌, ◌≤◌, ◌≡◌, false, length
 ghost use Rattle.capture.specs.Pieces.{begun_of, capture_fed};
 
 use arguments::{Fault, Setup, Wish, wished};
-use libc::{STDERR_FILENO, STDIN_FILENO, STDOUT_FILENO};
 use lines::reads::{Came, answered};
 use pieces::{Capture, begin, feed};
 use rows::Form;
+use std::env::FillError;
+use std::io::{Read, Stderr, Stdin, Stdout};
+use std::rt::Env;
 
 // The bytes of input and of output in one piece: two lines for each sample.
 const INPUT: usize = 1024;
 
 const OUTPUT: usize = 75776;
 
-// A proved loop ends, and nothing says that an input does: the pieces are counted down from a number that no run uses
-// up, and whose samples 64 bits count.
+// A proved loop ends, and nothing says that an input does: the pieces are counted to a number that no run reaches, and
+// whose samples 64 bits count.
 const PIECES: u64 = 0x20_0000_0000_0000;
 
 // After a piece: the capture, and whether there may be more.
@@ -36,19 +38,19 @@ struct Piece {
 }
 
 // The header and the RESET.
-fn opened(form: Form, reset: u16) -> Piece
+fn opened(out: Stdout, form: Form, reset: u16) -> Piece
     ensures { result.capture ≡ (begun_of form reset).capture }
 {
     let mut output = [0u8; 66];
     let begun = begin(form, reset, &mut output);
     let capture = begun.capture;
     let length = begun.length;
-    let more = io::write_all(STDOUT_FILENO, &output[..length]);
+    let more = out.write_all(&output[..length]).is_ok();
     Piece { capture, more }
 }
 
 // The text of what a read has given.
-fn told(form: Form, capture: Capture, input: &[u8]) -> Piece
+fn told(out: Stdout, form: Form, capture: Capture, input: &[u8]) -> Piece
     requires input_len_bound { length input.now ≤ 1024 }
     requires count_bound { capture.count + 1024 ≤ 0x8000_0000_0000_0000 }
     ensures { result.capture ≡ capture_fed capture input.now }
@@ -57,7 +59,7 @@ fn told(form: Form, capture: Capture, input: &[u8]) -> Piece
     let fed = feed(form, capture, input, &mut output);
     let next = fed.capture;
     let length = fed.length;
-    let more = io::write_all(STDOUT_FILENO, &output[..length]);
+    let more = out.write_all(&output[..length]).is_ok();
     Piece {
         capture: next,
         more,
@@ -74,71 +76,77 @@ fn ended(capture: Capture) -> Piece
     }
 }
 
-fn failed(capture: Capture) -> Piece
+fn failed(err: Stderr, capture: Capture) -> Piece
     ensures { result ≡ record { capture = capture; more = false } }
 {
-    io::write_all(STDERR_FILENO, b"capture: the input could not be read\n");
+    let _ = err.write_all(b"capture: the input could not be read\n");
     Piece {
         capture,
         more: false,
     }
 }
 
-fn next_piece(form: Form, capture: Capture) -> Piece
+fn next_piece(mut input: Stdin, out: Stdout, err: Stderr, form: Form, capture: Capture) -> Piece
     requires { capture.count + 1024 ≤ 0x8000_0000_0000_0000 }
     ensures { result.capture.count ≤ capture.count + 1024 }
 {
-    let mut input = [0u8; INPUT];
-    let got = libc::read(STDIN_FILENO, &mut input);
-    match answered(got, &input) {
-        Came::Bytes(count) => told(form, capture, &input[..count]),
+    let mut piece = [0u8; INPUT];
+    // As the system answers it: below 0 where it failed.
+    let got = match input.read(&mut piece) {
+        Ok(count) => count as isize,
+        Err(_) => -1,
+    };
+    match answered(got, &piece) {
+        Came::Bytes(count) => told(out, form, capture, &piece[..count]),
         Came::End => ended(capture),
-        Came::Failed => failed(capture),
+        Came::Failed => failed(err, capture),
     }
 }
 
-fn run(form: Form, reset: u16) {
-    let mut piece = opened(form, reset);
-    let mut pieces = PIECES;
-    while pieces > 0 {
+fn run(rt: HostRuntime, form: Form, reset: u16) {
+    let mut piece = opened(rt.stdout(), form, reset);
+    for _ in 0..PIECES {
         if !piece.more {
             return;
         }
-        piece = next_piece(form, piece.capture);
-        pieces -= 1;
+        piece = next_piece(rt.stdin(), rt.stdout(), rt.stderr(), form, piece.capture);
     }
 }
 
-// An argument that is longer than any that is understood counts as an empty one, which isn't either.
-fn argument(i: usize) -> Wish {
+// What an argument asks for, or nothing behind the last. One that is longer than any that is understood counts as an
+// empty one, which isn't either.
+fn argument(rt: HostRuntime, i: usize) -> Option<Wish> {
     let mut buffer = [0u8; 8];
-    let length = os::arg(i, &mut buffer);
-    wished(&buffer[..length])
+    match rt.arg(i, &mut buffer) {
+        Ok(length) => Some(wished(&buffer[..length])),
+        Err(FillError::TooLong) => Some(wished(&[])),
+        Err(FillError::NotPresent) => None,
+    }
 }
 
-fn setup() -> Setup {
+fn setup(rt: HostRuntime) -> Setup {
     let mut setup = Setup::plain();
-    let count = os::arg_count();
-    let mut i = 1;
-    while i < count {
-        setup = setup.asked(argument(i));
-        i += 1;
+    for i in 1..usize::MAX {
+        let Some(wish) = argument(rt, i) else {
+            break;
+        };
+        setup = setup.asked(wish);
     }
     setup
 }
 
-fn main() {
-    let setup = setup();
+fn main(rt: HostRuntime) {
+    let setup = setup(rt);
     let form = setup.form;
     let fault = setup.fault;
+    let err = rt.stderr();
     match fault {
-        Fault::NoFault => run(form, setup.reset),
+        Fault::NoFault => run(rt, form, setup.reset),
         Fault::NoReset => {
-            io::write_all(STDERR_FILENO, b"capture: a RESET's word is C000 to DFFF\n");
+            let _ = err.write_all(b"capture: a RESET's word is C000 to DFFF\n");
         }
         Fault::Unclear => {
-            io::write_all(
-                STDERR_FILENO,
+            let _ = err.write_all(
                 b"usage: capture [WORD] [words]   (WORD: the RESET in front, four hex digits; C0FF by default)\n",
             );
         }

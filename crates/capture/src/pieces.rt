@@ -9,6 +9,7 @@ ghost use Rattle.capture.specs.Pieces.{words_text, given_of, text_fed, fed_of, h
 use crate::rows::{Form, bare, row};
 use dock::Controller;
 use event::{Event, pack};
+use lines::text::copy;
 use wire::{Given, Wire};
 
 // A TICK follows each so many samples: 10 ms, at 2 µs for a sample.
@@ -141,7 +142,7 @@ fn header(form: Form, output: &mut [u8]) -> usize
     let Form::Lines = form else {
         return 0;
     };
-    bytes::copy(b"sample word ref rep byte out\n", output)
+    copy(b"sample word ref rep byte out\n", output)
 }
 
 // The header, and the RESET that no capture has.

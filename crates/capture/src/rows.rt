@@ -7,6 +7,7 @@ ghost use Rattle.capture.specs.Rows.{row_line};
 use crate::number::decimal;
 use dock::Answer;
 use lines::line::line;
+use lines::text::copy;
 
 // What is written for each word.
 #[derive(Clone, Copy)]
@@ -22,8 +23,8 @@ pub(crate) fn row(number: u64, word: u16, answer: Answer, output: &mut [u8]) -> 
     ensures output_after { output.new ≡ written (row_line number word answer) output.old }
 {
     let at = decimal(number, output);
-    let behind = at + bytes::copy(b" ", &mut output[at..]);
-    behind + bytes::copy(&line(word, answer), &mut output[behind..])
+    let behind = at + copy(b" ", &mut output[at..]);
+    behind + copy(&line(word, answer), &mut output[behind..])
 }
 
 // A bare word, high byte first.
@@ -32,5 +33,5 @@ pub(crate) fn bare(word: u16, output: &mut [u8]) -> usize
     ensures value { result ≡ length (bytes_of (word ∷ [])) }
     ensures output_after { output.new ≡ written (bytes_of (word ∷ [])) output.old }
 {
-    bytes::copy(&[(word / 256) as u8, (word % 256) as u8], output)
+    copy(&[(word / 256) as u8, (word % 256) as u8], output)
 }

@@ -3,10 +3,9 @@ use Prim.Native.Nat.{ℕ, zero, suc, min, ◌≤◌}
 use native.Mathlib.Omega.{arith}
 use mathlib.Core.Path.{◌≡◌, refl, ap}
 use mathlib.Core.Bool.{true, false}
-use lib.IntN.{ℤ, pos, negsuc}
+use lib.IntN.{ℤ, pos, negsuc, nat_abs}
 use lib.Signed.{lt_z}
 use borrow.Author.Tests.{ltb-true, ltb-false}
-use Rattle.io.specs.Counts.{clamp_len}
 use Rattle.lines.specs.Reads.{came_of}
 use Rattle.lines.specs.declared.reads.Came.TheVariants.{Bytes, End, Failed}
 
@@ -15,7 +14,7 @@ unfolding came_of
 negative (pos n) room e = absurd (omega (arith, ltb-true n 0 e))
 negative (negsuc n) room e = refl
 
-pub positive : (z : ℤ) (room n : ℕ) → lt_z (pos 0) z ≡ true → n ≡ clamp_len z room → Bytes n ≡ came_of z room
+pub positive : (z : ℤ) (room n : ℕ) → lt_z (pos 0) z ≡ true → n ≡ min (nat_abs z) room → Bytes n ≡ came_of z room
 unfolding came_of
 positive (pos zero) room n e c = absurd (omega (arith, ltb-true 0 0 e))
 positive (pos (suc k)) room n e c = ap Bytes c

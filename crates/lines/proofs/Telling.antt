@@ -123,3 +123,7 @@ piece_more T {s₀} {s} {t} {front} {pieces} {texts} {input} {text} before e f =
           flatten_one texts text
           ∙ rw (f, before.text, before.state, flatten_one pieces, T.text_append s₀ (flatten pieces) input, append_assoc);
     }
+
+-- So much does stand there.
+pub put_bounds : (text buffer : List ℕ) {n : ℕ} {left : List ℕ} → n ≡ length text → left ≡ written text buffer → n ≡ length (take n left)
+put_bounds text buffer e w = e ∙ ap length (sym (put_out text buffer e w))

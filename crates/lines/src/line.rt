@@ -9,6 +9,7 @@ use hexes::digit;
 // The bytes of a line, with its end.
 pub const LINE: usize = 16;
 
+#[tactic(auto, unfolding(crate::specs::Line::line_of))]
 pub fn line(word: u16, answer: Answer) -> [u8; 16]
     ensures { result ≡ line_of word answer }
 {

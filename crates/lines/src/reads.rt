@@ -17,7 +17,7 @@ pub fn answered(got: isize, buffer: &[u8]) -> Came
         return Came::Failed;
     }
     if 0 < got {
-        return Came::Bytes(io::count(got, buffer));
+        return Came::Bytes((got as usize).min(buffer.len()));
     }
     Came::End
 }

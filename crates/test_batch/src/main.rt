@@ -3,78 +3,80 @@
 
 use batch::Batched;
 use dock::Controller;
-
-const OUT: i32 = 1;
+use std::io;
+use std::io::Stdout;
 
 // The words of the twelve-word example.
 const WORDS: [u16; 12] = [
     0xC0BF, 0x0000, 0x4090, 0x4014, 0x4004, 0x2000, 0x0000, 0x4090, 0x4010, 0x0000, 0x4091, 0x6000,
 ];
 
-fn say(name: &[u8], done: Batched) {
+fn say(out: Stdout, name: &str, done: Batched) -> io::Result<()> {
     let outcome = done.outcome;
-    io::write_all(OUT, name);
-    io::write_all(OUT, b": refusal ");
-    io::print_decimal(OUT, outcome.refusal() as u64);
-    io::write_all(OUT, b", count ");
-    io::print_decimal(OUT, outcome.count() as u64);
-    io::write_all(OUT, b", buffer");
+    let refusal = outcome.refusal();
+    let count = outcome.count();
+    print!(out; "{name}: refusal {refusal}, count {count}, buffer")
 }
 
 fn wide(byte: u8) -> u64 {
     byte as u64
 }
 
-fn show(buffer: &[u8]) {
-    let mut i = 0;
-    while i < buffer.len() {
+fn show(out: Stdout, buffer: &[u8]) -> io::Result<()> {
+    for (i, byte) in buffer.iter().enumerate() {
         if i % 4 == 0 {
-            io::write_all(OUT, b" ");
+            print!(out; " ")?;
         }
-        io::print_hex(OUT, wide(buffer[i]), 2);
-        i += 1;
+        print!(out; "{:02x}", wide(*byte))?;
     }
-    io::write_all(OUT, b"\n");
+    println!(out; "")
 }
 
-fn main() {
+fn main(rt: HostRuntime) -> io::Result<()> {
+    let out = rt.stdout();
     let words = WORDS;
     let mut short = [0xEEu8; 11];
     say(
-        b"3 words, 11 bytes",
+        out,
+        "3 words, 11 bytes",
         batch::batch(Controller::fresh(), &words[..3], &mut short),
-    );
-    show(&short);
+    )?;
+    show(out, &short)?;
     let mut exact = [0xEEu8; 12];
     say(
-        b"3 words, 12 bytes",
+        out,
+        "3 words, 12 bytes",
         batch::batch(Controller::fresh(), &words[..3], &mut exact),
-    );
-    show(&exact);
+    )?;
+    show(out, &exact)?;
     let mut roomy = [0xEEu8; 15];
     say(
-        b"3 words, 15 bytes",
+        out,
+        "3 words, 15 bytes",
         batch::batch(Controller::fresh(), &words[..3], &mut roomy),
-    );
-    show(&roomy);
+    )?;
+    show(out, &roomy)?;
     let mut none = [0xEEu8; 2];
     say(
-        b"no words, 2 bytes",
+        out,
+        "no words, 2 bytes",
         batch::batch(Controller::fresh(), &words[..0], &mut none),
-    );
-    show(&none);
+    )?;
+    show(out, &none)?;
     let mut all = [0xEEu8; 48];
     say(
-        b"12 words, 48 bytes",
+        out,
+        "12 words, 48 bytes",
         batch::batch(Controller::fresh(), &words, &mut all),
-    );
-    show(&all);
+    )?;
+    show(out, &all)?;
     let mut damaged = Controller::fresh();
     damaged.machine.phase = 200;
     let mut kept = [0xEEu8; 4];
     say(
-        b"phase 200, 1 word",
+        out,
+        "phase 200, 1 word",
         batch::batch(damaged, &words[..1], &mut kept),
-    );
-    show(&kept);
+    )?;
+    show(out, &kept)
 }

@@ -18,228 +18,259 @@ use states::{
     bay, with_bay_count, with_counts, with_form_factors, with_lock_time, with_phase, with_progress,
     with_pulse, with_request, with_state, with_straps, with_wait, with_wait_time,
 };
+use std::io::Stdout;
 
-fn two_data_bytes() {
-    let c = byte(byte(start(reset(0xC0BF)), 0x90), 0x14);
-    let d = stop(byte(byte(c, 0x04), 0x05));
-    reads(d, 0x14);
-    line();
-    reads(write(reset(0xC0BF), 0x14, 0x04), 0x14);
-    line();
+fn two_data_bytes(out: Stdout) {
+    let c = byte(out, byte(out, start(out, reset(out, 0xC0BF)), 0x90), 0x14);
+    let d = stop(out, byte(out, byte(out, c, 0x04), 0x05));
+    reads(out, d, 0x14);
+    line(out);
+    reads(out, write(out, reset(out, 0xC0BF), 0x14, 0x04), 0x14);
+    line(out);
 }
 
-fn no_such_register() {
-    let c = byte(byte(start(reset(0xC0BF)), 0x90), 0x41);
-    let d = take(byte(start(c), 0x91));
-    let e = write(d, 0x41, 0xFF);
-    reads(e, 0x41);
-    reads(e, 0x40);
-    line();
+fn no_such_register(out: Stdout) {
+    let c = byte(out, byte(out, start(out, reset(out, 0xC0BF)), 0x90), 0x41);
+    let d = take(out, byte(out, start(out, c), 0x91));
+    let e = write(out, d, 0x41, 0xFF);
+    reads(out, e, 0x41);
+    reads(out, e, 0x40);
+    line(out);
 }
 
-fn own_address() {
-    byte(start(reset(0xCCFF)), 0x96);
-    line();
-    byte(start(reset(0xCCFF)), 0x90);
-    line();
+fn own_address(out: Stdout) {
+    byte(out, start(out, reset(out, 0xCCFF)), 0x96);
+    line(out);
+    byte(out, start(out, reset(out, 0xCCFF)), 0x90);
+    line(out);
 }
 
-fn write_at_the_stop() {
-    let c = byte(byte(byte(start(reset(0xC0BF)), 0x90), 0x14), 0x04);
-    reads(c, 0x14);
-    reads(stop(c), 0x14);
-    line();
+fn write_at_the_stop(out: Stdout) {
+    let c = byte(
+        out,
+        byte(out, byte(out, start(out, reset(out, 0xC0BF)), 0x90), 0x14),
+        0x04,
+    );
+    reads(out, c, 0x14);
+    reads(out, stop(out, c), 0x14);
+    line(out);
 }
 
-fn read_at_the_read_byte() {
-    let c = byte(byte(start(reset(0xC0BF)), 0x90), 0x10);
-    let d = ten_ticks(pins(byte(start(c), 0x91), 0xFF));
-    reads(d, 0x10);
-    take(d);
-    line();
+fn read_at_the_read_byte(out: Stdout) {
+    let c = byte(out, byte(out, start(out, reset(out, 0xC0BF)), 0x90), 0x10);
+    let d = ten_ticks(out, pins(out, byte(out, start(out, c), 0x91), 0xFF));
+    reads(out, d, 0x10);
+    take(out, d);
+    line(out);
 }
 
-fn dbccr_once() {
-    let c = write(write(reset(0xC0FF), 0x0C, 0x00), 0x0C, 0x12);
-    reads(c, 0x0C);
-    line();
+fn dbccr_once(out: Stdout) {
+    let c = write(out, write(out, reset(out, 0xC0FF), 0x0C, 0x00), 0x0C, 0x12);
+    reads(out, c, 0x0C);
+    line(out);
 }
 
-fn command_ended() {
-    let c = byte(byte(start(reset(0xC0BF)), 0x90), 0x14);
-    byte(event(c, b"TIMEOUT", 0xE000), 0x04);
-    line();
-    byte(start(start(reset(0xC0BF))), 0x90);
-    line();
+fn command_ended(out: Stdout) {
+    let c = byte(out, byte(out, start(out, reset(out, 0xC0BF)), 0x90), 0x14);
+    byte(out, event(out, c, b"TIMEOUT", 0xE000), 0x04);
+    line(out);
+    byte(out, start(out, start(out, reset(out, 0xC0BF))), 0x90);
+    line(out);
 }
 
 // The whole answer of the single call, and whether the state came back as it was.
-fn answered(c: Controller, w: u16) {
+fn answered(out: Stdout, c: Controller, w: u16) {
     let s = c.step(w);
     let a = s.answer;
     let next = s.controller;
-    answer(a);
-    given_back(same(next, c));
+    answer(out, a);
+    given_back(out, same(next, c));
 }
 
-fn single(name: &[u8], c: Controller, w: u16) {
-    put(name);
-    put(b", ");
-    word(w);
-    answered(c, w);
-    line();
+fn single(out: Stdout, name: &[u8], c: Controller, w: u16) {
+    put(out, name);
+    put(out, b", ");
+    word(out, w);
+    answered(out, c, w);
+    line(out);
 }
 
-fn fresh_takes_only_a_reset() {
+fn fresh_takes_only_a_reset(out: Stdout) {
     let c = Controller::fresh();
-    single(b"fresh", c, 0x0000);
-    single(b"fresh", c, 0x2000);
-    single(b"fresh", c, 0x4090);
-    single(b"fresh", c, 0x6000);
-    single(b"fresh", c, 0x80FF);
-    single(b"fresh", c, 0xA000);
-    single(b"fresh", c, 0xE000);
-    single(b"fresh", c, 0xC0BF);
-    single(b"fresh", c, 0x0001);
+    single(out, b"fresh", c, 0x0000);
+    single(out, b"fresh", c, 0x2000);
+    single(out, b"fresh", c, 0x4090);
+    single(out, b"fresh", c, 0x6000);
+    single(out, b"fresh", c, 0x80FF);
+    single(out, b"fresh", c, 0xA000);
+    single(out, b"fresh", c, 0xE000);
+    single(out, b"fresh", c, 0xC0BF);
+    single(out, b"fresh", c, 0x0001);
 }
 
-fn refusals(c: Controller) {
-    single(b"started", c, 0xA000);
-    single(b"started", c, 0x6000);
-    single(b"started", c, 0x0001);
-    single(b"started", c, 0x4190);
+fn refusals(out: Stdout, c: Controller) {
+    single(out, b"started", c, 0xA000);
+    single(out, b"started", c, 0x6000);
+    single(out, b"started", c, 0x0001);
+    single(out, b"started", c, 0x4190);
     let unfit = with_phase(c, 200);
-    single(b"unfit", unfit, 0xA000);
-    single(b"unfit", unfit, 0x0001);
-    single(b"unfit", unfit, 0xC0BF);
+    single(out, b"unfit", unfit, 0xA000);
+    single(out, b"unfit", unfit, 0x0001);
+    single(out, b"unfit", unfit, 0xC0BF);
 }
 
-fn questions(name: &[u8], c: Controller) {
-    put(name);
-    reads(c, 0x00);
-    reads(c, 0x10);
-    drives(c);
-    line();
+fn questions(out: Stdout, name: &[u8], c: Controller) {
+    put(out, name);
+    reads(out, c, 0x00);
+    reads(out, c, 0x10);
+    drives(out, c);
+    line(out);
 }
 
-fn enabled_without_device() {
-    let c = with_state(reset(0xC0FF), 0, Bay::ENABLED);
-    put(b", state 2");
-    reads(c, 0x10);
-    drives(c);
-    let d = tick(c);
-    reads(d, 0x10);
-    drives(d);
-    let e = write(d, 0x14, 0x81);
-    reads(e, 0x14);
-    drives(e);
-    line();
+fn enabled_without_device(out: Stdout) {
+    let c = with_state(reset(out, 0xC0FF), 0, Bay::ENABLED);
+    put(out, b", state 2");
+    reads(out, c, 0x10);
+    drives(out, c);
+    let d = tick(out, c);
+    reads(out, d, 0x10);
+    drives(out, d);
+    let e = write(out, d, 0x14, 0x81);
+    reads(out, e, 0x14);
+    drives(out, e);
+    line(out);
 }
 
-fn count_of_1394(c: Controller) {
+fn count_of_1394(out: Stdout, c: Controller) {
     let b = bay(c, 0);
     let counts = b.counts;
-    put(b", count ");
-    decimal(counts[Bay::N1394] as u16);
+    put(out, b", count ");
+    decimal(out, counts[Bay::N1394] as u16);
 }
 
-fn count_running_at_rest() {
-    let c = with_counts(reset(0xC0FF), 0, 9, 0, 0);
-    put(b", count 9 of 1394");
-    let d = tick(c);
-    count_of_1394(d);
-    reads(d, 0x10);
-    count_of_1394(pins(d, 0xFF));
-    line();
-    put(b"after that TICK,");
-    let e = tick(pins(d, 0x7F));
-    count_of_1394(e);
-    reads(e, 0x10);
-    line();
+fn count_running_at_rest(out: Stdout) {
+    let c = with_counts(reset(out, 0xC0FF), 0, 9, 0, 0);
+    put(out, b", count 9 of 1394");
+    let d = tick(out, c);
+    count_of_1394(out, d);
+    reads(out, d, 0x10);
+    count_of_1394(out, pins(out, d, 0xFF));
+    line(out);
+    put(out, b"after that TICK,");
+    let e = tick(out, pins(out, d, 0x7F));
+    count_of_1394(out, e);
+    reads(out, e, 0x10);
+    line(out);
 }
 
-fn wait_of(c: Controller) {
+fn wait_of(out: Stdout, c: Controller) {
     let b = bay(c, 0);
-    put(b", wait ");
-    decimal(b.wait);
+    put(out, b", wait ");
+    decimal(out, b.wait);
 }
 
-fn wait_without_device() {
-    let c = with_wait(reset(0xC0FF), 0, 2);
-    wait_of(c);
-    let d = tick(c);
-    wait_of(d);
-    reads(d, 0x10);
-    let e = tick(d);
-    wait_of(e);
-    reads(e, 0x10);
-    drives(e);
-    let f = write(e, 0x14, 0x81);
-    reads(f, 0x14);
-    drives(f);
-    line();
+fn wait_without_device(out: Stdout) {
+    let c = with_wait(reset(out, 0xC0FF), 0, 2);
+    wait_of(out, c);
+    let d = tick(out, c);
+    wait_of(out, d);
+    reads(out, d, 0x10);
+    let e = tick(out, d);
+    wait_of(out, e);
+    reads(out, e, 0x10);
+    drives(out, e);
+    let f = write(out, e, 0x14, 0x81);
+    reads(out, f, 0x14);
+    drives(out, f);
+    line(out);
 }
 
-fn closed_and_not_empty() {
-    let open = write(reset(0xC0FB), 0x1C, 0x24);
-    reads(open, 0x18);
-    drives(open);
-    line();
+fn closed_and_not_empty(out: Stdout) {
+    let open = write(out, reset(out, 0xC0FB), 0x1C, 0x24);
+    reads(out, open, 0x18);
+    drives(out, open);
+    line(out);
     let c = with_bay_count(open, 1);
-    put(b"the same with count 1");
-    reads(c, 0x0C);
-    reads(c, 0x18);
-    reads(c, 0x1C);
-    drives(c);
-    let d = write(write(tick(pins(c, 0xFF)), 0x18, 0x04), 0x1C, 0x81);
-    put(b", bay 1");
-    given_back(same_bay(bay(d, 1), bay(c, 1)));
-    line();
+    put(out, b"the same with count 1");
+    reads(out, c, 0x0C);
+    reads(out, c, 0x18);
+    reads(out, c, 0x1C);
+    drives(out, c);
+    let d = write(
+        out,
+        write(out, tick(out, pins(out, c, 0xFF)), 0x18, 0x04),
+        0x1C,
+        0x81,
+    );
+    put(out, b", bay 1");
+    given_back(out, same_bay(bay(d, 1), bay(c, 1)));
+    line(out);
 }
 
-fn read_open_before_reset() {
+fn read_open_before_reset(out: Stdout) {
     let c = with_progress(Controller::fresh(), Progress::Reading(0x55));
-    put(b"fresh, a read of 55h open,");
-    let d = take(c);
-    given_back(same(d, c));
-    let e = event(d, b"RESET C0FF", 0xC0FF);
-    take(e);
-    line();
+    put(out, b"fresh, a read of 55h open,");
+    let d = take(out, c);
+    given_back(out, same(d, c));
+    let e = event(out, d, b"RESET C0FF", 0xC0FF);
+    take(out, e);
+    line(out);
 }
 
 // A field at its last fit value, and one past it.
-fn limit(name: &[u8], last: u16, fit: Controller, unfit: Controller) {
-    put(name);
-    put(b" ");
-    decimal(last);
-    put(b",");
-    event(fit, b"TICK", 0xA000);
-    put(b"; ");
-    decimal(std::num::wrapping_add_u16(last, 1));
-    answered(unfit, 0xA000);
-    reads(unfit, 0x10);
-    drives(unfit);
-    line();
+fn limit(out: Stdout, name: &[u8], last: u16, fit: Controller, unfit: Controller) {
+    put(out, name);
+    put(out, b" ");
+    decimal(out, last);
+    put(out, b",");
+    event(out, fit, b"TICK", 0xA000);
+    put(out, b"; ");
+    decimal(out, std::num::wrapping_add_u16(last, 1));
+    answered(out, unfit, 0xA000);
+    reads(out, unfit, 0x10);
+    drives(out, unfit);
+    line(out);
 }
 
-fn bay_limits(c: Controller, i: u8) {
-    limit(b"state", 4, with_state(c, i, 4), with_state(c, i, 5));
-    limit(b"request", 4, with_request(c, i, 4), with_request(c, i, 5));
-    limit(b"pulse", 200, with_pulse(c, i, 200), with_pulse(c, i, 201));
-    limit(b"wait", 255, with_wait(c, i, 255), with_wait(c, i, 256));
+fn bay_limits(out: Stdout, c: Controller, i: u8) {
+    limit(out, b"state", 4, with_state(c, i, 4), with_state(c, i, 5));
     limit(
+        out,
+        b"request",
+        4,
+        with_request(c, i, 4),
+        with_request(c, i, 5),
+    );
+    limit(
+        out,
+        b"pulse",
+        200,
+        with_pulse(c, i, 200),
+        with_pulse(c, i, 201),
+    );
+    limit(
+        out,
+        b"wait",
+        255,
+        with_wait(c, i, 255),
+        with_wait(c, i, 256),
+    );
+    limit(
+        out,
         b"count of 1394",
         9,
         with_counts(c, i, 9, 0, 0),
         with_counts(c, i, 10, 0, 0),
     );
     limit(
+        out,
         b"count of USB",
         9,
         with_counts(c, i, 0, 9, 0),
         with_counts(c, i, 0, 10, 0),
     );
     limit(
+        out,
         b"count of removal request",
         4,
         with_counts(c, i, 0, 0, 4),
@@ -248,82 +279,113 @@ fn bay_limits(c: Controller, i: u8) {
 }
 
 // With the second kind in force a pulse and a wait may be longer.
-fn second_limits(c: Controller, i: u8) {
+fn second_limits(out: Stdout, c: Controller, i: u8) {
     limit(
+        out,
         b"pulse",
         1200,
         with_pulse(c, i, 1200),
         with_pulse(c, i, 1201),
     );
-    limit(b"wait", 560, with_wait(c, i, 560), with_wait(c, i, 561));
+    limit(
+        out,
+        b"wait",
+        560,
+        with_wait(c, i, 560),
+        with_wait(c, i, 561),
+    );
 }
 
 // 42h holds any byte.
-fn any_wait(c: Controller) {
-    put(b"wait 255 of either bay and of 42h,");
+fn any_wait(out: Stdout, c: Controller) {
+    put(out, b"wait 255 of either bay and of 42h,");
     let d = with_wait(with_wait(c, 0, 255), 1, 255);
-    let e = tick(with_wait_time(d, 255));
-    wait_of(e);
-    reads(e, 0x42);
-    line();
+    let e = tick(out, with_wait_time(d, 255));
+    wait_of(out, e);
+    reads(out, e, 0x42);
+    line(out);
 }
 
-fn limits(c: Controller) {
-    limit(b"phase", 199, with_phase(c, 199), with_phase(c, 200));
-    limit(b"straps", 15, with_straps(c, 15), with_straps(c, 16));
-    limit(b"lock time", 3, with_lock_time(c, 3), with_lock_time(c, 4));
-    limit(b"bay count", 3, with_bay_count(c, 3), with_bay_count(c, 4));
+fn limits(out: Stdout, c: Controller) {
+    limit(out, b"phase", 199, with_phase(c, 199), with_phase(c, 200));
+    limit(out, b"straps", 15, with_straps(c, 15), with_straps(c, 16));
     limit(
+        out,
+        b"lock time",
+        3,
+        with_lock_time(c, 3),
+        with_lock_time(c, 4),
+    );
+    limit(
+        out,
+        b"bay count",
+        3,
+        with_bay_count(c, 3),
+        with_bay_count(c, 4),
+    );
+    limit(
+        out,
         b"form factor of bay 0",
         7,
         with_form_factors(c, 7, 0),
         with_form_factors(c, 8, 0),
     );
     limit(
+        out,
         b"form factor of bay 1",
         7,
         with_form_factors(c, 0, 7),
         with_form_factors(c, 0, 8),
     );
-    put(b"bay 0:\n");
-    bay_limits(c, 0);
-    put(b"bay 1:\n");
-    bay_limits(c, 1);
-    any_wait(c);
+    put(out, b"bay 0:\n");
+    bay_limits(out, c, 0);
+    put(out, b"bay 1:\n");
+    bay_limits(out, c, 1);
+    any_wait(out, c);
 }
 
-fn main() {
-    put(b"Bench examples (in brackets: the reply, and a TAKE's byte)\n");
-    two_data_bytes();
-    no_such_register();
-    own_address();
-    put(b"Readings shut out\n");
-    write_at_the_stop();
-    read_at_the_read_byte();
-    dbccr_once();
-    command_ended();
-    put(b"Single call: state, word: refusal reply byte outputs\n");
-    fresh_takes_only_a_reset();
-    put(b"started is ");
-    let c = write(reset(0xC0BF), 0x14, 0x04);
-    put(b"; unfit is that with phase 200\n");
-    refusals(c);
-    put(b"Questions\n");
-    questions(b"fresh", Controller::fresh());
-    questions(b"started", c);
-    questions(b"unfit", with_phase(c, 200));
-    put(b"Fit states that no event reaches\n");
-    enabled_without_device();
-    count_running_at_rest();
-    wait_without_device();
-    closed_and_not_empty();
-    read_open_before_reset();
-    put(b"Each field of started at its last fit value, and one past it\n");
-    limits(c);
-    put(b"The same of ");
-    let d = second_reset(0xC0BF);
-    put(b"\nbay 0:\n");
-    second_limits(d, 0);
-    put(b"bay 1:\n");
-    second_limits(d, 1);
+fn main(rt: HostRuntime) {
+    let out = rt.stdout();
+    put(
+        out,
+        b"Bench examples (in brackets: the reply, and a TAKE's byte)\n",
+    );
+    two_data_bytes(out);
+    no_such_register(out);
+    own_address(out);
+    put(out, b"Readings shut out\n");
+    write_at_the_stop(out);
+    read_at_the_read_byte(out);
+    dbccr_once(out);
+    command_ended(out);
+    put(
+        out,
+        b"Single call: state, word: refusal reply byte outputs\n",
+    );
+    fresh_takes_only_a_reset(out);
+    put(out, b"started is ");
+    let c = write(out, reset(out, 0xC0BF), 0x14, 0x04);
+    put(out, b"; unfit is that with phase 200\n");
+    refusals(out, c);
+    put(out, b"Questions\n");
+    questions(out, b"fresh", Controller::fresh());
+    questions(out, b"started", c);
+    questions(out, b"unfit", with_phase(c, 200));
+    put(out, b"Fit states that no event reaches\n");
+    enabled_without_device(out);
+    count_running_at_rest(out);
+    wait_without_device(out);
+    closed_and_not_empty(out);
+    read_open_before_reset(out);
+    put(
+        out,
+        b"Each field of started at its last fit value, and one past it\n",
+    );
+    limits(out, c);
+    put(out, b"The same of ");
+    let d = second_reset(out, 0xC0BF);
+    put(out, b"\nbay 0:\n");
+    second_limits(out, d, 0);
+    put(out, b"bay 1:\n");
+    second_limits(out, d, 1);
 }

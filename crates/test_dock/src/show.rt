@@ -1,19 +1,18 @@
 // What came back, as text.
 use dock::{Answer, Controller};
+use std::io::Stdout;
 
-const OUT: i32 = 1;
-
-pub(crate) fn put(text: &[u8]) {
-    io::write_all(OUT, text);
+pub(crate) fn put(out: Stdout, text: &[u8]) {
+    let _ = out.write_all(text);
 }
 
 // The end of a line.
-pub(crate) fn line() {
-    put(b"\n");
+pub(crate) fn line(out: Stdout) {
+    put(out, b"\n");
 }
 
-pub(crate) fn decimal(n: u16) {
-    io::print_decimal(OUT, n as u64);
+pub(crate) fn decimal(out: Stdout, n: u16) {
+    let _ = print!(out; "{n}");
 }
 
 // An upper-case hex digit.
@@ -25,86 +24,86 @@ fn digit(n: u8) -> u8 {
     }
 }
 
-pub(crate) fn hex(n: u8) {
+pub(crate) fn hex(out: Stdout, n: u8) {
     let text = [digit(n / 16), digit(n % 16)];
-    put(&text);
+    put(out, &text);
 }
 
-pub(crate) fn word(n: u16) {
-    hex((n / 256) as u8);
-    hex((n % 256) as u8);
+pub(crate) fn word(out: Stdout, n: u16) {
+    hex(out, (n / 256) as u8);
+    hex(out, (n % 256) as u8);
 }
 
 // Outputs have nine bits: three digits.
-fn three(n: u16) {
+fn three(out: Stdout, n: u16) {
     let text = [digit((n / 256 % 16) as u8)];
-    put(&text);
-    hex((n % 256) as u8);
+    put(out, &text);
+    hex(out, (n % 256) as u8);
 }
 
 // The reply in brackets, with the byte of a TAKE, or the refusal.
-pub(crate) fn reply(a: Answer) {
+pub(crate) fn reply(out: Stdout, a: Answer) {
     let refusal = a.refusal();
     if refusal > 0 {
-        put(b" refused ");
-        decimal(refusal as u16);
+        put(out, b" refused ");
+        decimal(out, refusal as u16);
         return;
     }
-    put(b"(");
-    decimal(a.reply() as u16);
+    put(out, b"(");
+    decimal(out, a.reply() as u16);
     if a.reply() > 2 {
-        put(b" ");
-        hex(a.byte());
+        put(out, b" ");
+        hex(out, a.byte());
     }
-    put(b")");
+    put(out, b")");
 }
 
 // The four numbers of an answer.
-pub(crate) fn answer(a: Answer) {
-    put(b": ");
-    decimal(a.refusal() as u16);
-    put(b" ");
-    decimal(a.reply() as u16);
-    put(b" ");
-    hex(a.byte());
-    put(b" ");
-    three(a.outputs());
+pub(crate) fn answer(out: Stdout, a: Answer) {
+    put(out, b": ");
+    decimal(out, a.refusal() as u16);
+    put(out, b" ");
+    decimal(out, a.reply() as u16);
+    put(out, b" ");
+    hex(out, a.byte());
+    put(out, b" ");
+    three(out, a.outputs());
 }
 
-pub(crate) fn given_back(same: bool) {
+pub(crate) fn given_back(out: Stdout, same: bool) {
     if same {
-        put(b" as given");
+        put(out, b" as given");
     } else {
-        put(b" next state");
+        put(out, b" next state");
     }
 }
 
 // One register, asked outside the bus.
-pub(crate) fn reads(c: Controller, address: u8) {
-    put(b", ");
-    hex(address);
+pub(crate) fn reads(out: Stdout, c: Controller, address: u8) {
+    put(out, b", ");
+    hex(out, address);
     let t = c.reading(address);
     let refusal = t.refusal();
     if refusal > 0 {
-        put(b"h refused ");
-        decimal(refusal as u16);
-        put(b" with ");
+        put(out, b"h refused ");
+        decimal(out, refusal as u16);
+        put(out, b" with ");
     } else {
-        put(b"h reads ");
+        put(out, b"h reads ");
     }
-    hex((t.value() % 256) as u8);
-    put(b"h");
+    hex(out, (t.value() % 256) as u8);
+    put(out, b"h");
 }
 
 // The outputs, asked outside the bus.
-pub(crate) fn drives(c: Controller) {
-    put(b", outputs ");
+pub(crate) fn drives(out: Stdout, c: Controller) {
+    put(out, b", outputs ");
     let t = c.outputs();
     let refusal = t.refusal();
     if refusal > 0 {
-        put(b"refused ");
-        decimal(refusal as u16);
-        put(b" with ");
+        put(out, b"refused ");
+        decimal(out, refusal as u16);
+        put(out, b" with ");
     }
-    three(t.value());
+    three(out, t.value());
 }

@@ -3,8 +3,8 @@
 #![tactic(auto)]
 
 use event::{Event, Packed, Unpacked};
-
-const OUT: i32 = 1;
+use std::io;
+use std::io::Stdout;
 
 #[derive(Clone, Copy)]
 struct Tally {
@@ -123,40 +123,34 @@ fn resets(from: u32, to: u32, short_pulse: bool) -> Tally {
     t
 }
 
-fn column(n: u32) {
-    io::write_all(OUT, b"\t");
-    io::print_decimal(OUT, n as u64);
+fn column(out: Stdout, n: u32) -> io::Result<()> {
+    print!(out; "\t{n}")
 }
 
-fn row(name: &[u8], t: Tally) {
-    io::write_all(OUT, name);
-    column(t.accepted);
-    column(t.same);
-    column(t.refused);
-    column(t.short);
-    io::write_all(OUT, b"\n");
+fn row(out: Stdout, name: &str, t: Tally) -> io::Result<()> {
+    print!(out; "{name}")?;
+    column(out, t.accepted)?;
+    column(out, t.same)?;
+    column(out, t.refused)?;
+    column(out, t.short)?;
+    println!(out; "")
 }
 
-fn main() {
-    io::write_all(
-        OUT,
-        b"words of kind\taccepted\tback the same\trefused with 2\tshort pulse\n",
-    );
-    row(b"0 START", words(0x0000, 0x2000));
-    row(b"1 STOP", words(0x2000, 0x4000));
-    row(b"2 BYTE", words(0x4000, 0x6000));
-    row(b"3 TAKE", words(0x6000, 0x8000));
-    row(b"4 PINS", words(0x8000, 0xA000));
-    row(b"5 TICK", words(0xA000, 0xC000));
-    row(b"6 RESET", words(0xC000, 0xE000));
-    row(b"7 TIMEOUT", words(0xE000, 0x10000));
-    row(b"all", words(0, 0x10000));
-    io::write_all(
-        OUT,
-        b"RESET events\tpacked\tback the same\trefused with 6 and word 0\tshort pulse\n",
-    );
-    row(b"straps 0-15", resets(0x0000, 0x1000, false));
-    row(b"straps 16-255", resets(0x1000, 0x10000, false));
-    row(b"straps 0-15, short", resets(0x0000, 0x1000, true));
-    row(b"straps 16-255, short", resets(0x1000, 0x10000, true));
+fn main(rt: HostRuntime) -> io::Result<()> {
+    let out = rt.stdout();
+    println!(out; "words of kind\taccepted\tback the same\trefused with 2\tshort pulse")?;
+    row(out, "0 START", words(0x0000, 0x2000))?;
+    row(out, "1 STOP", words(0x2000, 0x4000))?;
+    row(out, "2 BYTE", words(0x4000, 0x6000))?;
+    row(out, "3 TAKE", words(0x6000, 0x8000))?;
+    row(out, "4 PINS", words(0x8000, 0xA000))?;
+    row(out, "5 TICK", words(0xA000, 0xC000))?;
+    row(out, "6 RESET", words(0xC000, 0xE000))?;
+    row(out, "7 TIMEOUT", words(0xE000, 0x10000))?;
+    row(out, "all", words(0, 0x10000))?;
+    println!(out; "RESET events\tpacked\tback the same\trefused with 6 and word 0\tshort pulse")?;
+    row(out, "straps 0-15", resets(0x0000, 0x1000, false))?;
+    row(out, "straps 16-255", resets(0x1000, 0x10000, false))?;
+    row(out, "straps 0-15, short", resets(0x0000, 0x1000, true))?;
+    row(out, "straps 16-255, short", resets(0x1000, 0x10000, true))
 }

@@ -4,8 +4,8 @@
 use Prim.Native.Nat.{ℕ}
 use mathlib.Core.Path.{◌≡◌, ap, sym, ◌∙◌}
 use mathlib.Core.List.{List, [], ◌∷◌, ◌++◌, append_assoc, flatten}
-use lib.ListN.{length, take}
-use denote.Ref.{Bor}
+use lib.ListN.{take}
+use denote.Ref.{Bor, MutBor}
 use Rattle.dock.specs.Record.{fresh_controller}
 use Rattle.pairs.specs.Pairs.{words_in}
 use Rattle.trace.specs.Text.{header, lines_of, text_of}
@@ -24,10 +24,10 @@ use Rattle.trace.proofs.pieces.finish.Reads as finish_call
 -- The pieces so far, what was put out for each, and the trace.
 pub data Called : List (List ℕ) → List (List ℕ) → Trace → Type 0 where
   begin :
-      (κs : _) (output left : Bor (List ℕ)) (r : Fed) → begin_call.Post κs (output, tt) r (left, tt)
+      (κs : _) (output left : MutBor (List ℕ)) (r : Fed) → begin_call.Post κs (output, tt) r (left, tt)
       → Called [] (take r.length left.now ∷ []) r.trace
   feed :
-      {pieces texts : List (List ℕ)} {t : Trace} (κs : _) (input output left : Bor (List ℕ)) (r : Fed) → Called pieces texts t
+      {pieces texts : List (List ℕ)} {t : Trace} (κs : _) (input : Bor (List ℕ)) (output left : MutBor (List ℕ)) (r : Fed) → Called pieces texts t
       → feed_call.Post κs (t, (input, (output, tt))) r (t, (input, (left, tt)))
       → Called (pieces ++ (input.now ∷ [])) (texts ++ (take r.length left.now ∷ [])) r.trace
 
@@ -37,14 +37,14 @@ abbrev fresh : Trace
 fresh = begun.trace
 
 begin_says :
-    (κs : _) (output left : Bor (List ℕ)) (r : Fed) → begin_call.Post κs (output, tt) r (left, tt)
+    (κs : _) (output left : MutBor (List ℕ)) (r : Fed) → begin_call.Post κs (output, tt) r (left, tt)
     → (r.trace ≡ fresh) × (take r.length left.now ≡ header)
 unfolding begun
 begin_says κs output left r p =
     (ap (λ (f : Fed). f.trace) p.0, put_out header output.now (ap (λ (f : Fed). f.length) p.0) p.1)
 
 feed_says :
-    (κs : _) (t : Trace) (input output left : Bor (List ℕ)) (r : Fed) → feed_call.Post κs (t, (input, (output, tt))) r (t, (input, (left, tt)))
+    (κs : _) (t : Trace) (input : Bor (List ℕ)) (output left : MutBor (List ℕ)) (r : Fed) → feed_call.Post κs (t, (input, (output, tt))) r (t, (input, (left, tt)))
     → (r.trace ≡ trace_fed t input.now) × (take r.length left.now ≡ lines_fed t input.now)
 unfolding fed_of
 feed_says κs t input output left r p =
@@ -67,7 +67,7 @@ told_at_once c = (as_one_piece c).text
 -- However the input was cut, all that was put out is the text of the whole input.
 pub cut_anywhere :
     {pieces texts : List (List ℕ)} {t : Trace} → Called pieces texts t
-    → (κs : _) (output left : Bor (List ℕ)) (n : ℕ) → finish_call.Post κs (t, (output, tt)) n (t, (left, tt))
+    → (κs : _) (output left : MutBor (List ℕ)) (n : ℕ) → finish_call.Post κs (t, (output, tt)) n (t, (left, tt))
     → flatten (texts ++ (take n left.now ∷ [])) ≡ text_of (flatten pieces)
 unfolding text_of ending_of trace_fed begun
 cut_anywhere {pieces} {texts} {t} c κs output left n p =
@@ -77,17 +77,17 @@ cut_anywhere {pieces} {texts} {t} c κs output left n p =
 -- ---- the contracts determine what they speak of
 
 pub begin_determined :
-    (κs : _) (output left left' : Bor (List ℕ)) (r r' : Fed) → begin_call.Post κs (output, tt) r (left, tt)
+    (κs : _) (output left left' : MutBor (List ℕ)) (r r' : Fed) → begin_call.Post κs (output, tt) r (left, tt)
     → begin_call.Post κs (output, tt) r' (left', tt) → (r ≡ r') × (left.now ≡ left'.now)
 begin_determined κs output left left' r r' p q = (p.0 ∙ sym q.0, p.1 ∙ sym q.1)
 
 pub feed_determined :
-    (κs : _) (t : Trace) (input output left left' : Bor (List ℕ)) (r r' : Fed)
+    (κs : _) (t : Trace) (input : Bor (List ℕ)) (output left left' : MutBor (List ℕ)) (r r' : Fed)
     → feed_call.Post κs (t, (input, (output, tt))) r (t, (input, (left, tt)))
     → feed_call.Post κs (t, (input, (output, tt))) r' (t, (input, (left', tt))) → (r ≡ r') × (left.now ≡ left'.now)
 feed_determined κs t input output left left' r r' p q = (p.0 ∙ sym q.0, p.1 ∙ sym q.1)
 
 pub finish_determined :
-    (κs : _) (t : Trace) (output left left' : Bor (List ℕ)) (n n' : ℕ) → finish_call.Post κs (t, (output, tt)) n (t, (left, tt))
+    (κs : _) (t : Trace) (output left left' : MutBor (List ℕ)) (n n' : ℕ) → finish_call.Post κs (t, (output, tt)) n (t, (left, tt))
     → finish_call.Post κs (t, (output, tt)) n' (t, (left', tt)) → (n ≡ n') × (left.now ≡ left'.now)
 finish_determined κs t output left left' n n' p q = (p.0 ∙ sym q.0, p.1 ∙ sym q.1)

@@ -7,6 +7,7 @@ ghost use Rattle.trace.specs.Pieces.{lines_fed, fed_of, begun, ending_of};
 
 use dock::Controller;
 use lines::line::{LINE, line};
+use lines::text::copy;
 
 // The byte of a word that has come without the other.
 #[derive(Clone, Copy)]
@@ -29,12 +30,13 @@ pub struct Fed {
 }
 
 // The header, and the trace of a fresh controller.
+#[tactic(auto, unfolding(crate::specs::Text::header, lines::specs::Text::written, crate::specs::Pieces::begun))]
 pub(crate) fn begin(output: &mut [u8]) -> Fed
     requires { 22 ≤ length output.old }
     ensures value { result ≡ begun }
     ensures output_after { output.new ≡ written header output.old }
 {
-    let length = bytes::copy(b"word ref rep byte out\n", output);
+    let length = copy(b"word ref rep byte out\n", output);
     Fed {
         trace: Trace {
             controller: Controller::fresh(),
@@ -45,6 +47,7 @@ pub(crate) fn begin(output: &mut [u8]) -> Fed
 }
 
 // One byte. The first of a word waits; the second completes the word, whose line is put at the start of the buffer.
+#[tactic(auto, unfolding(lines::specs::Text::written, crate::specs::Pieces::lines_fed, crate::specs::Pieces::trace_fed, crate::specs::Pieces::fed_of, pairs::specs::Pairs::words_in, pairs::specs::Pairs::lone_in, crate::specs::Text::lines_of, dock::specs::Run::after, lines::specs::Line::line_of))]
 fn hear(trace: Trace, byte: u8, output: &mut [u8]) -> Fed
     requires { 16 ≤ length output.old }
     ensures value { result ≡ fed_of trace (byte ∷ []) }
@@ -66,7 +69,7 @@ fn hear(trace: Trace, byte: u8, output: &mut [u8]) -> Fed
     let next = stepped.controller;
     let answer = stepped.answer;
     let text = line(word, answer);
-    bytes::copy(&text, output);
+    copy(&text, output);
     Fed {
         trace: Trace {
             controller: next,
@@ -77,6 +80,7 @@ fn hear(trace: Trace, byte: u8, output: &mut [u8]) -> Fed
 }
 
 // A piece of the input. The buffer has room for a line for every two bytes, and for one line more.
+#[tactic(auto, using(lines::proofs::Telling::Heard, lines::proofs::Telling::none_heard, lines::proofs::Telling::byte_most, lines::proofs::Telling::one_more, lines::proofs::Telling::length_kept, lines::proofs::Telling::one_fits, lines::proofs::Telling::all_heard, crate::proofs::Loop::telling), unfolding(crate::specs::Pieces::fed_of))]
 pub(crate) fn feed(trace: Trace, input: &[u8], output: &mut [u8]) -> Fed
     requires { 8 * length input.now + 16 ≤ length output.old }
     ensures value { result ≡ fed_of trace input.now }
@@ -98,6 +102,7 @@ pub(crate) fn feed(trace: Trace, input: &[u8], output: &mut [u8]) -> Fed
 }
 
 // The input has ended: a byte that still waits was a lone last one.
+#[tactic(auto, unfolding(lines::specs::Text::written, crate::specs::Pieces::ending_of, crate::specs::Text::odd_for, crate::specs::Text::odd))]
 pub(crate) fn finish(trace: Trace, output: &mut [u8]) -> usize
     requires { 4 ≤ length output.old }
     ensures value { result ≡ length (ending_of trace) }
@@ -107,5 +112,5 @@ pub(crate) fn finish(trace: Trace, output: &mut [u8]) -> usize
     let Waiting::High(_) = waiting else {
         return 0;
     };
-    bytes::copy(b"odd\n", output)
+    copy(b"odd\n", output)
 }
