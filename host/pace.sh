@@ -1,7 +1,7 @@
 # shellcheck shell=bash disable=SC2154
 # Sourced by host/run: the proved library beside the C controller, both by the toolchain's clang at -O3. Times are of the
-# machine itself, for which the library's module is compiled; instructions are x86-64's, as the toolchain's emulator of it
-# runs them, one at a time.
+# machine itself, for which the library's module is compiled; instructions are x86-64's, as an emulator of it runs them, one
+# at a time, where the machine has one: QEMU's for programs, qemu-x86_64.
 
 pace=$out/pace
 pace_flags=(-O3 -ffunction-sections -fdata-sections -Wno-override-module)
@@ -35,9 +35,15 @@ time_pace() {
     "$pace/pace" "$1"
 }
 
+# One instruction at a time, by the flag's name in this QEMU: it was another before version 8.1.
+choose_single() {
+    single=-one-insn-per-tb
+    qemu-x86_64 -help | grep -q -e "$single" || single=-singlestep
+}
+
 # lines LIST SIDE WORDS: how many instructions that run has, with what comes before and after.
 lines() {
-    "$tools/bin/qemu-x86_64" -one-insn-per-tb -d exec,nochain -D "$pace/log" "$pace/count" "$@"
+    qemu-x86_64 "$single" -d exec,nochain -D "$pace/log" "$pace/count" "$@"
     wc -l <"$pace/log"
 }
 
@@ -55,10 +61,11 @@ pace_ratio() { awk -v one="$1" -v other="$2" 'BEGIN { printf "%.2f", one / other
 
 count_pace() {
     local target=x86_64-linux-gnu
-    if [ ! -x "$tools/bin/qemu-x86_64" ]; then
-        echo "host/run: this toolchain has no emulator of x86-64, so no instructions are counted"
+    if ! command -v qemu-x86_64 >/dev/null; then
+        echo "host/run: there is no qemu-x86_64 here, so no instructions are counted"
         return 0
     fi
+    choose_single
     pace_objects "$target"
     "$tools/bin/clang" --target="$target" -O2 -fno-builtin -ffreestanding -nostdlibinc -isystem "$small/libc" \
         -DPACE_COUNT -I "$library" -I "$here/plain" -c "$here/c/pace.c" -o "$pace/$target/count.o"

@@ -2,7 +2,7 @@
 # Sourced by host/run: Debian's packages, fetched and unpacked below a folder. Nothing is installed, and no right of root
 # is needed.
 
-# Package lists and downloads of our own, so that the machine's are left as they are. Further lines are added as given.
+# Package lists and downloads of our own, so that the machine's are left as they are.
 write_apt_configuration() {
     local folder=$1
     mkdir -p "$folder/lists/partial" "$folder/archives/partial"
@@ -15,12 +15,11 @@ APT::Sandbox::User "root";
 Acquire::Languages "none";
 Acquire::Retries "3";
 Debug::NoLocking "true";
-${*:2}
 END
 }
 
-# fetch_packages FOLDER WHAT DOWNLOAD UNPACK [LINE..]: once. The two functions run apt-get with that configuration, and
-# make FOLDER/root of what came.
+# fetch_packages FOLDER WHAT DOWNLOAD UNPACK: once. The two functions run apt-get with that configuration, and make
+# FOLDER/root of what came.
 fetch_packages() {
     local folder=$1 what=$2 download=$3 unpack=$4
     [ ! -e "$folder/ready" ] || return 0
@@ -30,7 +29,7 @@ fetch_packages() {
     fi
     echo "host/run: fetching $what (once)" >&2
     rm -rf "$folder"
-    write_apt_configuration "$folder" "${@:5}"
+    write_apt_configuration "$folder"
     if ! (export APT_CONFIG="$folder/apt.conf" && "$download") >"$folder/log" 2>&1; then
         tail -n 5 "$folder/log" >&2
         echo "host/run: the packages could not be fetched: $folder/log" >&2

@@ -21,36 +21,46 @@ flags_of() {
 read -ra level <<<"${DOCK_LEVEL:--O3 -mllvm -inline-threshold=2000}"
 
 find_kit() {
-    kit=$(dirname "$(dirname "$(rt doc)")")
-    tools=$kit/on/$(uname -m)/toolchain
+    kit=$(dirname "$(rt doc)")
+    tools=$kit/toolchain
 }
 
-# link_all FROM TO BUT: everything in FROM but one name leads to the same in TO.
+# link_all FROM TO BUT..: everything in FROM but these names leads to the same in TO.
 link_all() {
     local path
     mkdir -p "$2"
     for path in "$1"/*; do
-        [ "${path##*/}" = "$3" ] || ln -s "$path" "$2/${path##*/}"
+        [[ " ${*:3} " == *" ${path##*/} "* ]] || ln -s "$path" "$2/${path##*/}"
     done
 }
 
-# A kit that is the toolchain's own, by links, but for its clang: ours keeps the module that it is given, which is the
-# whole proved library, and then is the toolchain's.
+# make_listening_kit FOLDER: a kit that is the toolchain's own, by links, but for its clang: ours keeps the module that it
+# is given, which is the whole proved library, and then is the toolchain's. A kit is where rt's own file really is, so rt
+# is a copy. The compiler is given no environment.
 make_listening_kit() {
-    local own=on/$(uname -m)
-    rm -rf "$firmware/kit"
-    link_all "$kit" "$firmware/kit" on
-    link_all "$kit/$own" "$firmware/kit/$own" toolchain
-    link_all "$tools" "$firmware/kit/$own/toolchain" bin
-    link_all "$tools/bin" "$firmware/kit/$own/toolchain/bin" clang
-    cat >"$firmware/kit/$own/toolchain/bin/clang" <<END
+    link_all "$kit" "$1" bin toolchain
+    link_all "$kit/bin" "$1/bin" rt rtlib.py
+    cp "$kit"/bin/rt{,lib.py} "$1/bin/"
+    link_all "$tools" "$1/toolchain" bin
+    link_all "$tools/bin" "$1/toolchain/bin" clang
+    cat >"$1/toolchain/bin/clang" <<END
 #!/bin/sh
 for word; do
-    case \$word in *.bc) cp "\$word" "$module" ;; esac
+    case \$word in *.bc) /bin/cp "\$word" "$module" ;; esac
 done
 exec "$tools/bin/clang" "\$@"
 END
-    chmod +x "$firmware/kit/$own/toolchain/bin/clang"
+    chmod +x "$1/toolchain/bin/clang"
+}
+
+# Outside the repository, of which a kit is no part.
+make_library_again() {
+    local folder made=0
+    folder=$(mktemp -d)
+    make_listening_kit "$folder/kit"
+    (cd "$linked" && "$folder/kit/bin/rt" lib) || made=$?
+    rm -rf "$folder"
+    return "$made"
 }
 
 # The library for x86-64 is made once more, and comes out as it was: so the module is the one that it was made from.
@@ -61,13 +71,16 @@ keep_module() {
     fi
     mkdir -p "$firmware"
     rm -f "$module"
-    make_listening_kit
     echo "host/run: making the library once more, to keep what the compiler is given" >&2
-    if ! (cd "$top" && RATTLE_HOME=$firmware/kit rt staticlib link) >"$firmware/module.log" 2>&1; then
+    if ! make_library_again >"$firmware/module.log" 2>&1; then
         tail -n 5 "$firmware/module.log" >&2
         return 1
     fi
-    if ! cmp "$top/target/staticlib/liblink.a" "$library/libdock.a"; then
+    if [ ! -e "$module" ]; then
+        echo "host/run: the compiler was given no module: $firmware/module.log" >&2
+        return 1
+    fi
+    if ! cmp "$linked/out/liblink_c.a" "$library/libdock.a"; then
         echo "host/run: this module is not the one that $library/libdock.a was made from" >&2
         rm -f "$module"
         return 1
@@ -82,7 +95,7 @@ compile_module() {
         cat "$firmware/messages" >&2
         return 1
     }
-    ! grep -v "^'x86-64' is not a recognized processor for this target" "$firmware/messages" >&2
+    ! grep -v "^'x86-64[^']*' is not a recognized processor for this target" "$firmware/messages" >&2
 }
 
 # compile_small OBJECT SOURCE [FLAG..]

@@ -17,13 +17,6 @@ use std::time::Instant;
 
 const REPEATS: usize = 1_001;
 
-/// Set by the script that starts this program under an emulator, to the emulator's name.
-const EMULATOR: &str = "DOCK_EMULATOR";
-
-/// Has the tables of what was seen on x86-64 itself, each of which begins with these words.
-const README: &str = include_str!("../../README.md");
-const SEEN: &str = "| ns for each event";
-
 const SIZES: [usize; 5] = [1_024, 2_048, 4_096, 8_192, 16_384];
 
 /// One run, in nanoseconds for each word.
@@ -56,21 +49,8 @@ fn medians<const N: usize>(sides: [Side; N], words: &[u16], repeats: usize) -> [
     times.map(|mut of_side| median(&mut of_side))
 }
 
-/// The lines of the README's tables with the times on x86-64 itself.
-fn seen_on_x86_64() -> impl Iterator<Item = &'static str> {
-    README.split("\n\n").filter(|part| part.starts_with(SEEN)).flat_map(str::lines)
-}
-
 fn describe_machine(repeats: usize) {
-    let architecture = std::env::consts::ARCH;
-    match std::env::var(EMULATOR) {
-        Ok(emulator) => {
-            println!("architecture: {}, under the emulator {}", architecture, emulator);
-            println!("Times under an emulator say nothing about real hardware. On x86-64 itself was seen:");
-            seen_on_x86_64().for_each(|line| println!("    {}", line));
-        }
-        Err(_) => println!("architecture: {}, no emulator", architecture),
-    }
+    println!("architecture: {}", std::env::consts::ARCH);
     println!("median of {} runs; each answer buffer is cleared before the run, outside the timed part", repeats);
 }
 
