@@ -22,7 +22,7 @@ use borrow.Author.Tests.{eq-eqb, eqb-true}
 use lib.Dec.{eqb}
 use Rattle.bus.specs.Progress.{heard, known_to, own_read_byte, own_write_byte, started, started_known, heard_known, holding, next_register}
 use lib.ListN.{length}
-use Rattle.demand.proofs.Forms.{none_begins, on_more, bytes_more, last_more, length_more, map_more, no_bytes, over_more, some_more, takes_more, within_more}
+use Rattle.demand.proofs.Forms.{none_begins, on_more, bytes_more, last_more, length_more, map_more, over_more, some_more, takes_more, within_more}
 use Rattle.demand.specs.Transfers.{number_after, second_completes, second_decides, second_goes_on}
 use Rattle.demand.specs.Commands.{first_completes, first_decides, first_goes_on}
 use Rattle.machine.specs.declared.Act.TheVariants as act

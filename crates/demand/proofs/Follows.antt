@@ -34,7 +34,7 @@ use Rattle.dock.specs.Events.{at_stop, byte_at, byte_heard, done, next, read_at,
 use Rattle.demand.specs.Described.{decides}
 use Rattle.machine.specs.Acts.{does, does_all, name_to, pins_to, reset_as, tick_to}
 use Rattle.dock.specs.Record.{fresh_controller}
-use Rattle.bus.specs.Progress.{heard, known_to, started}
+use Rattle.bus.specs.Progress.{heard, known_to}
 use Rattle.demand.specs.Plain.{last_read, machine_after, read_by, reply_to, to_word, reply_by}
 use Rattle.machine.proofs.Fit.{name_fits}
 use Rattle.dock.specs.Name.{name_of, named_to, name_fit}

@@ -1,10 +1,10 @@
 -- Demand 3 on a chassis reaches the code: calls on a lent list, and the library's calls on a list of images that a program holds, one after the other, whatever
 -- each returns that meets its contract. The list is then that of the controllers after their own calls, the bytes are its images, and every answer that
 -- is no refusal is made of the plain machines'. Assumes nothing.
-use Prim.Native.Nat.{ℕ, ◌+◌}
+use Prim.Native.Nat.{ℕ}
 use mathlib.Core.Path.{◌≡◌, refl, sym, ap, ◌∙◌}
 use mathlib.Core.List.{List, [], ◌∷◌, ◌++◌}
-use lib.ListN.{length, get_or, set, length-replicate, get_or-replicate}
+use lib.ListN.{get_or, set, length-replicate, get_or-replicate}
 use denote.MutBor.{MutBor}
 use Rattle.event.specs.Words.{unpacked}
 use Rattle.event.specs.declared.Event.{Event}

@@ -22,8 +22,8 @@ returns-in_default-naming c =
     let w = is_image_lem a.state.now c.load-loaded.result c.load-loaded.ensures c.in-Whole.is in
     let o : Octets a.state.now = λ i. omega (arith, c.slice_known-1.given i) in
     let t =
-        names_refused a.state.now a.kind w.0 r.result (r.ensures ∙ ap (λ s. name_of s a.kind) w.1) o
-        (not_stored r.result.naming c.in_default-naming.not-Stored) in
+    names_refused a.state.now a.kind w.0 r.result (r.ensures ∙ ap (λ s. name_of s a.kind) w.1) o
+    (not_stored r.result.naming c.in_default-naming.not-Stored) in
     record { value = c.named-in_default-naming.ensures ∙ ap named_as t.0; state_after = t.1 }
 
 pub returns-clause-state_after : goal.returns-clause-state_after

@@ -21,8 +21,8 @@ returns-in_default-outcome c =
     let w = is_image_lem a.state.now c.load-loaded.result c.load-loaded.ensures c.in-Whole.is in
     let o : Octets a.state.now = λ i. omega (arith, c.slice_known-1.given i) in
     let t =
-        ran_refused a.state.now a.words.now a.records.now w.0 b.result (b.ensures.value ∙ ap (λ s. batch_of s a.words.now (length a.records.now)) w.1) o
-        (not_batched b.result.outcome c.in_default-outcome.not-Done) in
+    ran_refused a.state.now a.words.now a.records.now w.0 b.result (b.ensures.value ∙ ap (λ s. batch_of s a.words.now (length a.records.now)) w.1) o
+    (not_batched b.result.outcome c.in_default-outcome.not-Done) in
     record { value = t.0; state_after = t.1; records_after = b.ensures.records_after ∙ ap (λ s. buffer_after s a.words.now a.records.now) w.1 ∙ t.2 }
 
 pub returns-clause-state_after : goal.returns-clause-state_after

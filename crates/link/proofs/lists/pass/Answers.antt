@@ -1,7 +1,6 @@
 -- None is passed before the loop, a turn passes one part more, and after it all are passed.
-use Rattle.std.proofs.Common.{arith}
 use native.Mathlib.Nat.{add-sub_cancel_left}
-use Rattle.link.proofs.Parts.{none_passed, length_kept, image_waits, passes_on, all_passed}
+use Rattle.link.proofs.Parts.{none_passed, image_waits, passes_on, all_passed}
 use Rattle.link.proofs.lists.pass.Goals as goal
 
 pub loop-i-init : goal.loop-i-init

@@ -1,8 +1,7 @@
 -- No image, or a refused call: the bytes are as they came.
-use Rattle.std.proofs.Common.{◌≡◌, ◌∙◌, sym, ap}
+use Rattle.std.proofs.Common.{◌∙◌, sym, ap}
 use Rattle.queue.specs.Turns.{put_of}
 use Rattle.queue.specs.Run.{put}
-use Rattle.queue_image.specs.Load.{is_image}
 use Rattle.queue_image.proofs.Told.{loaded}
 use Rattle.link.proofs.Turns.{left_alone, left_refused}
 use Rattle.link.proofs.queues.dock_queue_put.Goals as goal

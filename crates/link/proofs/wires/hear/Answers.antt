@@ -19,8 +19,8 @@ returns-in_default-outcome c =
     let i = held_image a.held.now _ (sym c.in-Held.is ∙ c.load-loaded.ensures) in
     let l = c.listen-listened in
     let t =
-        heard_refused a.held.now a.samples.now a.words.now _ i.0 i.1 l.result l.ensures.value _ l.ensures.words_after
-        (not_heard l.result.outcome c.in_default-outcome.not-Done) in
+    heard_refused a.held.now a.samples.now a.words.now _ i.0 i.1 l.result l.ensures.value _ l.ensures.words_after
+    (not_heard l.result.outcome c.in_default-outcome.not-Done) in
     record { value = t.outcome; held_after = t.held; words_after = t.words }
 
 pub returns-clause-held_after : goal.returns-clause-held_after
