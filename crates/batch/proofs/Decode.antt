@@ -1,5 +1,5 @@
 -- A record decodes to the answer it was made of: the fields lie side by side, each within its bits. Assumes nothing.
-use Prim.Native.Nat.{ℕ, zero, suc, ◌/◌, ◌%◌, ◌<◌}
+use Prim.Native.Nat.{ℕ, zero, suc, ◌<◌}
 use native.Mathlib.Omega.{arith}
 use native.Mathlib.Nat.{div-div-eq-div-mul, mod-eq_of_lt}
 use mathlib.Core.Path.{◌≡◌, refl, ◌∙◌}

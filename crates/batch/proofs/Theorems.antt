@@ -1,6 +1,6 @@
 -- The theorems on batches (document 01, "Replies and refusal numbers"; demand 2, "alone or batched"). They are about the definitions
 -- of specs/, which the contract of `batch` gives as the whole answer and the whole buffer. Assumes nothing.
-use Prim.Native.Nat.{ℕ, suc, ◌+◌, ◌*◌, ◌<◌}
+use Prim.Native.Nat.{ℕ, suc, ◌*◌, ◌<◌}
 use native.Mathlib.Omega.{arith}
 use mathlib.Core.Path.{◌≡◌, refl, ap, sym, ◌∙◌}
 use mathlib.Core.Bool.{Bool, true, false, cond}
