@@ -1,15 +1,15 @@
 //! Counts the records that the program copies in a call, as it is written and before it is compiled.
 //!
-//!     rt mir dock | cost
-//!     rt mir link | cost queue
+//!     cat crates/*/out/rlib/*.rlib/toolchain/mir.json | cost [queue]
 //!
-//! It reads the printed program and runs calls of it. A copy is a value of at least a certain size that is passed,
-//! returned, put into another record or taken out of one. The compiler may leave copies out.
+//! It reads the program as the toolchain keeps it beside each proved library, and runs calls of it. A copy is a value of at
+//! least a certain size that is passed, returned, put into another record or taken out of one. The compiler may leave
+//! copies out.
 
 mod controller;
+mod json;
 mod queue;
 mod run;
-mod text;
 mod types;
 
 use std::io::Read;
@@ -38,7 +38,7 @@ fn main() -> ExitCode {
         }
     };
     let mut text = String::new();
-    std::io::stdin().read_to_string(&mut text).expect("the printed program on standard input");
-    tell(&Program::new(&text::parse(&text)));
+    std::io::stdin().read_to_string(&mut text).expect("the libraries' programs on standard input");
+    tell(&Program::new(&json::parse(&text)));
     ExitCode::SUCCESS
 }

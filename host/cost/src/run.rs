@@ -1,9 +1,9 @@
-//! Runs a function of the printed program, one statement after the other, and counts the records that it copies.
+//! Runs a function of the program, one statement after the other, and counts the records that it copies.
 
 use std::collections::{BTreeMap, HashMap};
 
-use crate::text::Tree;
-use crate::types::{type_of, Declared, Type, Types};
+use crate::json::Json;
+use crate::types::{literal, type_of, Declared, Type, Types};
 
 #[derive(Clone, Debug)]
 pub enum Value {
@@ -50,33 +50,73 @@ impl Value {
 pub type Copies = BTreeMap<String, usize>;
 
 pub struct Program<'a> {
-    functions: HashMap<&'a str, &'a Tree>,
+    functions: HashMap<&'a str, &'a Json>,
     pub types: Types,
 }
 
-/// A call that is running; or, beneath the first one, what it is lent.
+/// A function's body, which stands in the program as a list: each statement before those that are inside it.
+enum Statement<'a> {
+    Seq(Box<Statement<'a>>, Box<Statement<'a>>),
+    Skip,
+    Return,
+    Exit(usize),
+    Block(Box<Statement<'a>>),
+    Loop(Box<Statement<'a>>),
+    If(&'a Json, Box<Statement<'a>>, Box<Statement<'a>>),
+    /// The keys of each arm, and what else goes on.
+    Switch(&'a Json, Vec<(&'a Json, Statement<'a>)>, Option<Box<Statement<'a>>>),
+    /// One that has no other inside it.
+    Plain(&'a Json),
+}
+
+impl<'a> Statement<'a> {
+    fn inside(list: &mut std::slice::Iter<'a, Json>) -> Box<Statement<'a>> {
+        Box::new(Statement::first(list))
+    }
+
+    fn first(list: &mut std::slice::Iter<'a, Json>) -> Statement<'a> {
+        let json = list.next().expect("a statement");
+        match json.case() {
+            "Seq" => Statement::Seq(Statement::inside(list), Statement::inside(list)),
+            "Skip" => Statement::Skip,
+            "Return" => Statement::Return,
+            "Exit" => Statement::Exit(json.inner().number() as usize),
+            "Block" => Statement::Block(Statement::inside(list)),
+            "Loop" => Statement::Loop(Statement::inside(list)),
+            "If" => Statement::If(json.inner(), Statement::inside(list), Statement::inside(list)),
+            "Switch" => {
+                let parts = json.inner();
+                let arms = parts.at(1).list().iter().map(|keys| (keys, Statement::first(list))).collect();
+                let other = if parts.at(2).flag() { Some(Statement::inside(list)) } else { None };
+                Statement::Switch(parts.at(0), arms, other)
+            }
+            _ => Statement::Plain(json),
+        }
+    }
+}
+
+/// A call that is running; or, beneath the first one, what it is lent, and the program's tables.
 struct Frame {
     types: Vec<Type>,
     locals: Vec<Option<Value>>,
 }
 
 impl<'a> Program<'a> {
-    /// `program (lcons (fn-def NAME (fnItem ..) TYPES) ..) MAIN`; a function without declared types has no TYPES.
-    pub fn new(tree: &'a Tree) -> Program<'a> {
+    /// Of each library a list of its functions, each a name and what it is.
+    pub fn new(libraries: &'a [Json]) -> Program<'a> {
         let mut functions = HashMap::new();
         let mut types = Types::default();
-        for function in tree.part(1).chain() {
-            functions.insert(function.part(1).head(), function.part(2));
-            for declared in function.get(3).map_or(Vec::new(), Tree::chain) {
-                types.declare(declared.part(1).head(), declared.part(2));
-            }
+        for named in libraries.iter().flat_map(Json::list) {
+            functions.insert(named.at(0).text(), named.at(1));
+            named.at(1).field("types").list().iter().for_each(|declared| types.declare(declared));
         }
         Program { functions, types }
     }
 
     /// The function's result. Each copy of a value that has at least `least` bytes is added to `copies`.
     pub fn call(&self, name: &str, arguments: Vec<Value>, least: usize, copies: &mut Copies) -> Value {
-        Run { program: self, least, copies, frames: Vec::new() }.result(name, arguments)
+        let beneath = Frame { types: Vec::new(), locals: Vec::new() };
+        Run { program: self, least, copies, frames: vec![beneath] }.result(name, arguments)
     }
 
     /// The same of a function whose first argument is bytes that are lent to it.
@@ -137,32 +177,35 @@ impl Run<'_, '_, '_> {
 
     fn result(&mut self, name: &str, arguments: Vec<Value>) -> Value {
         let function = self.program.functions.get(name).unwrap_or_else(|| panic!("there is no function `{}`", name));
-        let types: Vec<Type> = function.part(4).chain().into_iter().map(|local| type_of(local.part(1))).collect();
+        let types: Vec<Type> = function.field("locals").list().iter().map(|local| type_of(local.field("ty"))).collect();
         let mut locals = vec![None; types.len()];
         for (place, argument) in locals[1..].iter_mut().zip(arguments) {
             *place = Some(argument);
         }
         self.frames.push(Frame { types, locals });
-        self.statement(function.part(5));
+        let mut body = function.field("body").list().iter();
+        self.statement(&Statement::first(&mut body));
+        assert!(body.next().is_none(), "`{}` has a statement too many", name);
         self.frames.pop().and_then(|mut frame| frame.locals[0].take()).expect("a result")
     }
 
     /// Where a place is, and its type. The tag of an enum is its field 0.
-    fn resolve(&self, place: &Tree) -> (Spot, Type) {
-        let mut spot = Spot { frame: self.frames.len() - 1, local: place.part(1).number() as usize, path: Vec::new() };
+    fn resolve(&self, place: &Json) -> (Spot, Type) {
+        let local = place.field("local").number() as usize;
+        let mut spot = Spot { frame: self.frames.len() - 1, local, path: Vec::new() };
         let mut of = self.frames[spot.frame].types[spot.local].clone();
         let mut variant = None;
-        for step in place.part(2).chain() {
-            match step.head() {
-                "field" => {
-                    let index = step.part(1).number() as usize;
+        for step in place.field("steps").list() {
+            match step.case() {
+                "Field" => {
+                    let index = step.inner().number() as usize;
                     of = self.part_type(&of, variant.take(), index);
                     spot.path.push(index);
                 }
-                "variant" => variant = Some(step.part(1).number() as usize),
-                "deref" => {
+                "Variant" => variant = Some(step.inner().number() as usize),
+                "Deref" => {
                     spot = self.pointed(&spot);
-                    of = type_of(step.part(1));
+                    of = type_of(step.inner());
                 }
                 other => panic!("`{}` is no step to a place", other),
             }
@@ -202,7 +245,7 @@ impl Run<'_, '_, '_> {
         value.clone()
     }
 
-    fn write(&mut self, place: &Tree, value: Value) {
+    fn write(&mut self, place: &Json, value: Value) {
         let (spot, _) = self.resolve(place);
         let local = &mut self.frames[spot.frame].locals[spot.local];
         if spot.path.is_empty() {
@@ -216,24 +259,24 @@ impl Run<'_, '_, '_> {
         *target = value;
     }
 
-    fn operand(&mut self, tree: &Tree) -> Value {
-        match tree.head() {
-            "copy" => {
-                let (spot, of) = self.resolve(tree.part(1));
+    fn operand(&mut self, json: &Json) -> Value {
+        match json.case() {
+            "Copy" => {
+                let (spot, of) = self.resolve(json.inner());
                 self.count(&of);
                 self.at(&spot)
             }
-            "int" => Value::Int(tree.part(2).number()),
-            "true" => Value::Int(1),
-            "false" => Value::Int(0),
-            "unit" => Value::Record(Vec::new()),
+            "Int" => Value::Int(json.inner().field("value").number()),
+            "True" => Value::Int(1),
+            "False" => Value::Int(0),
+            "Unit" => Value::Record(Vec::new()),
             other => panic!("`{}` is no operand that this program knows", other),
         }
     }
 
     /// A new value of the type of `place`: of an enum, the first operand is the variant's number.
-    fn aggregate(&mut self, parts: &Tree, place: &Tree) -> Value {
-        let mut values: Vec<Value> = parts.chain().into_iter().map(|part| self.operand(part)).collect();
+    fn aggregate(&mut self, parts: &Json, place: &Json) -> Value {
+        let mut values: Vec<Value> = parts.list().iter().map(|part| self.operand(part)).collect();
         let (_, of) = self.resolve(place);
         match &of {
             Type::Named(name) if matches!(self.program.types.declared(name), Declared::Enum(_)) => {
@@ -257,99 +300,113 @@ impl Run<'_, '_, '_> {
 
     fn binary(&self, operator: &str, a: Value, b: Value) -> Value {
         if let Value::Pointer(spot) = a {
-            assert_eq!(operator, "offset");
+            assert_eq!(operator, "Offset");
             return Value::Pointer(self.offset(spot, b.int() as usize));
         }
         let (a, b) = (a.int(), b.int());
         Value::Int(match operator {
-            "add" => a + b,
-            "sub" => a - b,
-            "mul" => a * b,
-            "div" => a / b,
-            "rem" => a % b,
-            "eq" => u64::from(a == b),
-            "ne" => u64::from(a != b),
-            "lt" => u64::from(a < b),
-            "le" => u64::from(a <= b),
-            "and" => a & b,
-            "or" => a | b,
+            "Add" => a + b,
+            "Sub" => a - b,
+            "Mul" => a * b,
+            "Div" => a / b,
+            "Rem" => a % b,
+            "Eq" => u64::from(a == b),
+            "Ne" => u64::from(a != b),
+            "Lt" => u64::from(a < b),
+            "Le" => u64::from(a <= b),
+            "And" => a & b,
+            "Or" => a | b,
             other => panic!("`{}` is no operator that this program knows", other),
         })
     }
 
-    fn value(&mut self, tree: &Tree, place: &Tree) -> Value {
-        match tree.head() {
-            "rvOpd" => self.operand(tree.part(1)),
-            "addrOf" => Value::Pointer(self.resolve(tree.part(1)).0),
-            "aggregate" => self.aggregate(tree.part(1), place),
-            "repeat" => {
-                let value = self.operand(tree.part(1));
-                Value::Record(vec![value; tree.part(2).number() as usize])
+    fn value(&mut self, json: &Json, place: &Json) -> Value {
+        let parts = json.inner();
+        match json.case() {
+            "Opd" => self.operand(parts),
+            "AddrOf" => Value::Pointer(self.resolve(parts).0),
+            "Aggregate" => self.aggregate(parts, place),
+            "Repeat" => {
+                let value = self.operand(parts.at(0));
+                Value::Record(vec![value; literal(parts.at(1))])
             }
-            "op1" if tree.part(1).head() == "not" => Value::Int(1 - self.operand(tree.part(2)).int()),
-            "op1" if tree.part(1).head() == "cast" => self.operand(tree.part(2)),
-            "op2" => {
-                let a = self.operand(tree.part(2));
-                let b = self.operand(tree.part(3));
-                self.binary(tree.part(1).head(), a, b)
+            "Op1" if parts.at(0).case() == "Not" => Value::Int(1 - self.operand(parts.at(1)).int()),
+            "Op1" if parts.at(0).case() == "Cast" => self.operand(parts.at(1)),
+            "Op2" => {
+                let a = self.operand(parts.at(1));
+                let b = self.operand(parts.at(2));
+                self.binary(parts.at(0).case(), a, b)
             }
             other => panic!("`{}` makes no value that this program knows", other),
         }
     }
 
-    fn call(&mut self, tree: &Tree) {
-        let name = tree.part(1).part(1).part(1).head();
-        let arguments = tree.part(2).chain().into_iter().map(|part| self.operand(part)).collect();
+    fn call(&mut self, parts: &Json) {
+        let name = parts.at(0).inner().at(0).text();
+        let arguments = parts.at(1).list().iter().map(|part| self.operand(part)).collect();
         let result = self.result(name, arguments);
-        let (_, of) = self.resolve(tree.part(3));
+        let (_, of) = self.resolve(parts.at(2));
         self.count(&of);
-        self.write(tree.part(3), result);
+        self.write(parts.at(2), result);
     }
 
-    /// The statement that a switch goes on with.
-    fn arm<'t>(&self, mut arms: &'t Tree, on: u64) -> &'t Tree {
-        while arms.head() == "arm" {
-            if arms.part(1).chain().into_iter().any(|key| key.number() == on) {
-                return arms.part(2);
-            }
-            arms = arms.part(3);
-        }
-        arms.part(1)
+    /// A table of the program's own: it stands beneath the running calls.
+    fn lend(&mut self, parts: &Json) {
+        let of = type_of(parts.at(1));
+        let numbers = parts.at(2).inner().field("values").list();
+        let table = Value::Record(numbers.iter().map(|number| Value::Int(number.number())).collect());
+        let beneath = &mut self.frames[0];
+        beneath.types.push(of);
+        beneath.locals.push(Some(table));
+        let spot = Spot { frame: 0, local: beneath.locals.len() - 1, path: Vec::new() };
+        self.write(parts.at(0), Value::Pointer(spot));
     }
 
-    fn statement(&mut self, tree: &Tree) -> Flow {
-        match tree.head() {
-            "seq" => match self.statement(tree.part(1)) {
-                Flow::On => self.statement(tree.part(2)),
-                left => left,
-            },
-            "skip" => Flow::On,
-            "return" => Flow::Returned,
-            "exit" => Flow::Exit(tree.part(1).number() as usize),
-            "block" => self.statement(tree.part(1)).out(),
-            "loop" => self.repeat(tree.part(1)),
-            "assign" => {
-                let value = self.value(tree.part(2), tree.part(1));
-                self.write(tree.part(1), value);
-                Flow::On
+    fn plain(&mut self, json: &Json) {
+        let parts = json.inner();
+        match json.case() {
+            "Assign" => {
+                let value = self.value(parts.at(1), parts.at(0));
+                self.write(parts.at(0), value);
             }
-            "call" => {
-                self.call(tree);
-                Flow::On
-            }
-            "if" => {
-                let taken = self.operand(tree.part(1)).int() == 1;
-                self.statement(tree.part(if taken { 2 } else { 3 }))
-            }
-            "switch" => {
-                let on = self.operand(tree.part(1)).int();
-                self.statement(self.arm(tree.part(2), on))
-            }
+            "Call" => self.call(parts),
+            "LendStatic" => self.lend(parts),
             other => panic!("`{}` is no statement that this program knows", other),
         }
     }
 
-    fn repeat(&mut self, body: &Tree) -> Flow {
+    fn statement(&mut self, statement: &Statement) -> Flow {
+        match statement {
+            Statement::Seq(first, second) => match self.statement(first) {
+                Flow::On => self.statement(second),
+                left => left,
+            },
+            Statement::Skip => Flow::On,
+            Statement::Return => Flow::Returned,
+            Statement::Exit(further) => Flow::Exit(*further),
+            Statement::Block(body) => self.statement(body).out(),
+            Statement::Loop(body) => self.repeat(body),
+            Statement::If(condition, then, other) => {
+                let taken = self.operand(condition).int() == 1;
+                self.statement(if taken { then } else { other })
+            }
+            Statement::Switch(on, arms, other) => {
+                let on = self.operand(on).int();
+                let arm = arms.iter().find(|(keys, _)| keys.list().iter().any(|key| key.number() == on));
+                match (arm, other) {
+                    (Some((_, arm)), _) => self.statement(arm),
+                    (None, Some(other)) => self.statement(other),
+                    (None, None) => panic!("no arm for {}", on),
+                }
+            }
+            Statement::Plain(json) => {
+                self.plain(json);
+                Flow::On
+            }
+        }
+    }
+
+    fn repeat(&mut self, body: &Statement) -> Flow {
         loop {
             match self.statement(body).out() {
                 Flow::On => {}

@@ -1,9 +1,9 @@
-//! The types that the printed program declares, and their sizes in bytes.
+//! The types that the program declares, and their sizes in bytes.
 
 use std::collections::HashMap;
 use std::fmt;
 
-use crate::text::Tree;
+use crate::json::Json;
 
 #[derive(Clone, Debug)]
 pub enum Type {
@@ -39,21 +39,27 @@ pub enum Declared {
 #[derive(Default)]
 pub struct Types(HashMap<String, Declared>);
 
-pub fn type_of(tree: &Tree) -> Type {
-    match tree.head() {
-        "tyUnit" => Type::Unit,
-        "tyBool" => Type::Bool,
-        "tyInt" => Type::Int(tree.part(1).number()),
-        "tyPtr" | "tyRef" => Type::Pointer,
-        "tyArray" => Type::Array(Box::new(type_of(tree.part(1))), tree.part(2).part(1).number() as usize),
-        "tyStruct" => Type::Struct(types_of(tree.part(2))),
-        "tyNamed" => Type::Named(tree.part(1).part(1).head().to_string()),
+pub fn type_of(json: &Json) -> Type {
+    match json.case() {
+        "Unit" => Type::Unit,
+        "Bool" => Type::Bool,
+        "Int" => Type::Int(json.inner().number()),
+        "Ptr" | "Ref" => Type::Pointer,
+        "Array" => Type::Array(Box::new(type_of(json.inner().at(0))), literal(json.inner().at(1))),
+        "Struct" => Type::Struct(types_of(json.inner().at(1))),
+        "Named" => Type::Named(json.inner().at(0).field("name").text().to_string()),
         other => panic!("`{}` is no type that this program knows", other),
     }
 }
 
-fn types_of(chain: &Tree) -> Vec<Type> {
-    chain.chain().into_iter().map(type_of).collect()
+/// A length that stands in the program as a number.
+pub fn literal(json: &Json) -> usize {
+    assert_eq!(json.case(), "Lit");
+    json.inner().number() as usize
+}
+
+fn types_of(list: &Json) -> Vec<Type> {
+    list.list().iter().map(type_of).collect()
 }
 
 /// The next place that is a multiple of the alignment.
@@ -62,13 +68,18 @@ fn aligned(place: usize, alignment: usize) -> usize {
 }
 
 impl Types {
-    pub fn declare(&mut self, name: &str, body: &Tree) {
-        let declared = match body.head() {
-            "fields" => Declared::Struct(types_of(body.part(1))),
-            "variants" => Declared::Enum(body.part(1).chain().into_iter().map(types_of).collect()),
+    /// A type with parameters is none of those that are run here, and is passed over.
+    pub fn declare(&mut self, json: &Json) {
+        let shape = json.field("shape");
+        if json.field("type_params").number() > 0 || !json.field("const_params").list().is_empty() {
+            return;
+        }
+        let declared = match shape.case() {
+            "Fields" => Declared::Struct(types_of(shape.inner())),
+            "Variants" => Declared::Enum(shape.inner().list().iter().map(types_of).collect()),
             other => panic!("`{}` declares no type", other),
         };
-        self.0.insert(name.to_string(), declared);
+        self.0.insert(json.field("name").text().to_string(), declared);
     }
 
     pub fn declared(&self, name: &str) -> &Declared {
