@@ -32,6 +32,7 @@ use Rattle.bus.specs.declared.Reply.TheVariants.{Driven}
 use Rattle.event.specs.declared.Event.{Event}
 use mathlib.Core.List.{List, [], ◌++◌, ◌∷◌, map}
 use denote.Ref.{Bor}
+use denote.MutBor.{MutBor}
 use Rattle.dock.specs.declared.Told.{Told}
 use Rattle.demand.specs.Words.{accepted}
 use Rattle.demand.specs.Plain.{acts_after, machine_after, plain_answer, reply_to}
@@ -208,7 +209,7 @@ words_after : {cs : List Call} {s : Controller} → Called cs s → (ws : List �
 words_after {cs} {s} c ws = sym (words_calls s ws) ∙ ap (λ t. after_calls t (map word ws)) (called_is c) ∙ sym (calls_append fresh_controller cs (map word ws))
 
 pub compiled_batch :
-    {cs : List Call} {s : Controller} → Called cs s → (κs : _) (words records left : Bor (List ℕ)) (r : Batched) (n : ℕ)
+    {cs : List Call} {s : Controller} → Called cs s → (κs : _) (words : Bor (List ℕ)) (records left : MutBor (List ℕ)) (r : Batched) (n : ℕ)
     → outcome_of s (length words.now) (length records.now) ≡ Done n
     → batch_call.Post κs (s, (words, (records, tt))) r (s, (words, (left, tt))) → Batch cs words.now records.now r left.now
 compiled_batch {cs} {s} c κs words records left r n e p =

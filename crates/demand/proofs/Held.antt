@@ -7,6 +7,7 @@ use mathlib.Core.List.{List, [], ◌∷◌, ◌++◌, map}
 use lib.Dec.{ltb}
 use lib.ListN.{length, get_or, take, drop}
 use denote.Ref.{Bor}
+use denote.MutBor.{MutBor}
 use borrow.Author.Tests.{eq-eqb, le-ltb}
 use Rattle.kind.specs.Kind.{numbered}
 use Rattle.machine.specs.Record.{fits}
@@ -45,16 +46,16 @@ use Rattle.demand.proofs.Demand3.{after_every_event, reached_fit, named_as as an
 -- Calls one after the other, each of which answered and left its bytes as its contract says: the words and names that they took, and the
 -- bytes. A question leaves the bytes, so it needs no place here.
 pub data Held : List Call → List ℕ → Type 0 where
-  begin : (κs : _) (state left : Bor (List ℕ)) (r : ℕ) → length state.now ≡ BYTES → begin_call.Post κs (state, tt) r (left, tt) → Held [] left.now
+  begin : (κs : _) (state left : MutBor (List ℕ)) (r : ℕ) → length state.now ≡ BYTES → begin_call.Post κs (state, tt) r (left, tt) → Held [] left.now
   step :
-      {cs : List Call} (κs : _) (state left : Bor (List ℕ)) (w r : ℕ) → Held cs state.now → step_call.Post κs (state, (w, tt)) r (left, (w, tt))
+      {cs : List Call} (κs : _) (state left : MutBor (List ℕ)) (w r : ℕ) → Held cs state.now → step_call.Post κs (state, (w, tt)) r (left, (w, tt))
       → Held (cs ++ (word w ∷ [])) left.now
   batch :
-      {cs : List Call} (κs : _) (state words records left written : Bor (List ℕ)) (r : ℕ) → Held cs state.now
+      {cs : List Call} (κs : _) (state : MutBor (List ℕ)) (words : Bor (List ℕ)) (records left written : MutBor (List ℕ)) (r : ℕ) → Held cs state.now
       → batch_call.Post κs (state, (words, (records, tt))) r (left, (words, (written, tt)))
       → Held (cs ++ map word (taken words.now (length records.now))) left.now
   name :
-      {cs : List Call} (κs : _) (state left : Bor (List ℕ)) (n r : ℕ) → Held cs state.now → name_call.Post κs (state, (n, tt)) r (left, (n, tt))
+      {cs : List Call} (κs : _) (state left : MutBor (List ℕ)) (n r : ℕ) → Held cs state.now → name_call.Post κs (state, (n, tt)) r (left, (n, tt))
       → Held (cs ++ (naming n ∷ [])) left.now
 
 -- The bytes are the image of the controller after the calls.
@@ -103,15 +104,15 @@ pub record Records (cs : List Call) (words buffer written : List ℕ) (r : ℕ) 
 pub record Agrees (cs : List Call) (bytes : List ℕ) : Type 0 where
   pub image : bytes ≡ saved (reached cs)
   pub answers :
-      (κs : _) (state left : Bor (List ℕ)) (w r : ℕ) → state.now ≡ bytes → step_call.Post κs (state, (w, tt)) r (left, (w, tt))
+      (κs : _) (state left : MutBor (List ℕ)) (w r : ℕ) → state.now ≡ bytes → step_call.Post κs (state, (w, tt)) r (left, (w, tt))
       → r ≡ number_of (record_of (plain_answer cs w))
   pub batches :
-      (κs : _) (state words records left written : Bor (List ℕ)) (r : ℕ) → state.now ≡ bytes → length words.now ≤ 16384
+      (κs : _) (state : MutBor (List ℕ)) (words : Bor (List ℕ)) (records left written : MutBor (List ℕ)) (r : ℕ) → state.now ≡ bytes → length words.now ≤ 16384
       → 4 * length words.now ≤ length records.now
       → batch_call.Post κs (state, (words, (records, tt))) r (left, (words, (written, tt)))
       → Records cs words.now records.now written.now r
   pub names :
-      (κs : _) (state left : Bor (List ℕ)) (n r : ℕ) → state.now ≡ bytes → name_call.Post κs (state, (n, tt)) r (left, (n, tt))
+      (κs : _) (state left : MutBor (List ℕ)) (n r : ℕ) → state.now ≡ bytes → name_call.Post κs (state, (n, tt)) r (left, (n, tt))
       → r ≡ named_as (answer_to (numbered n))
   pub readings :
       (κs : _) (state : Bor (List ℕ)) (a r : ℕ) → state.now ≡ bytes → reading_call.Post κs (state, (a, tt)) r (state, (a, tt))

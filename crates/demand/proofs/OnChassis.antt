@@ -5,7 +5,7 @@ use Prim.Native.Nat.{ℕ, ◌+◌}
 use mathlib.Core.Path.{◌≡◌, refl, sym, ap, ◌∙◌}
 use mathlib.Core.List.{List, [], ◌∷◌, ◌++◌}
 use lib.ListN.{length, get_or, set, length-replicate, get_or-replicate}
-use denote.Ref.{Bor}
+use denote.MutBor.{MutBor}
 use Rattle.event.specs.Words.{unpacked}
 use Rattle.event.specs.declared.Event.{Event}
 use Rattle.event.specs.declared.Unpacked.TheVariants.{Accepted}
@@ -68,14 +68,14 @@ compiled_list {k} {calls} c =
 pub data OnBytes (k : ℕ) : List ChassisCall → List ℕ → Type 0 where
   begin : OnBytes k [] (images_of (begun k))
   step :
-      {calls : List ChassisCall} (κs : _) (states left : Bor (List ℕ)) (n w r : ℕ) → OnBytes k calls states.now
+      {calls : List ChassisCall} (κs : _) (states left : MutBor (List ℕ)) (n w r : ℕ) → OnBytes k calls states.now
       → chassis_call.Post κs (states, (n, (w, tt))) r (left, (n, (w, tt))) → OnBytes k (calls ++ (word n w ∷ [])) left.now
 
 -- The bytes are the images of the controllers after their own calls, and an answer that is no refusal is that of their plain machines.
 pub record BytesAgree (k : ℕ) (calls : List ChassisCall) (bytes : List ℕ) : Type 0 where
   pub images : bytes ≡ images_of (reached k calls)
   pub answers :
-      (κs : _) (states left : Bor (List ℕ)) (n w r : ℕ) → states.now ≡ bytes → chassis_call.Post κs (states, (n, (w, tt))) r (left, (n, (w, tt)))
+      (κs : _) (states left : MutBor (List ℕ)) (n w r : ℕ) → states.now ≡ bytes → chassis_call.Post κs (states, (n, (w, tt))) r (left, (n, (w, tt)))
       → r ≡ chassis_as (told_of (reached k calls) n w)
   pub plain :
       (n w : ℕ) (e : Event) → unpacked w ≡ Accepted e → answer_refusal (told_of (reached k calls) n w).answer ≡ 0

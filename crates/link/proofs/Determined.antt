@@ -4,6 +4,7 @@ use Prim.Native.Nat.{ℕ}
 use mathlib.Core.Path.{◌≡◌, ◌∙◌, sym}
 use mathlib.Core.List.{List}
 use denote.Ref.{Bor}
+use denote.MutBor.{MutBor}
 use Rattle.link.proofs.version.dock_version.Reads as version_reads
 use Rattle.link.proofs.events.dock_unpack.Reads as unpack_reads
 use Rattle.link.proofs.events.dock_pack.Reads as pack_reads
@@ -33,25 +34,25 @@ pub pack_determined :
 pack_determined k a b r s p q = p ∙ sym q
 
 pub replay_determined :
-    (κs : _) (words records : Bor (List ℕ)) (r s : ℕ) (left left' : Bor (List ℕ))
+    (κs : _) (words : Bor (List ℕ)) (records : MutBor (List ℕ)) (r s : ℕ) (left left' : MutBor (List ℕ))
     → replay_reads.Post κs (words, (records, tt)) r (words, (left, tt)) → replay_reads.Post κs (words, (records, tt)) s (words, (left', tt))
     → (r ≡ s) × (left.now ≡ left'.now)
 replay_determined κs words records r s left left' p q = (p.0 ∙ sym q.0, p.1 ∙ sym q.1)
 
 pub begin_determined :
-    (κs : _) (state : Bor (List ℕ)) (r s : ℕ) (left left' : Bor (List ℕ))
+    (κs : _) (state : MutBor (List ℕ)) (r s : ℕ) (left left' : MutBor (List ℕ))
     → begin_reads.Post κs (state, tt) r (left, tt) → begin_reads.Post κs (state, tt) s (left', tt)
     → (r ≡ s) × (left.now ≡ left'.now)
 begin_determined κs state r s left left' p q = (p.0 ∙ sym q.0, p.1 ∙ sym q.1)
 
 pub step_determined :
-    (κs : _) (state : Bor (List ℕ)) (w r s : ℕ) (left left' : Bor (List ℕ))
+    (κs : _) (state : MutBor (List ℕ)) (w r s : ℕ) (left left' : MutBor (List ℕ))
     → step_reads.Post κs (state, (w, tt)) r (left, (w, tt)) → step_reads.Post κs (state, (w, tt)) s (left', (w, tt))
     → (r ≡ s) × (left.now ≡ left'.now)
 step_determined κs state w r s left left' p q = (p.0 ∙ sym q.0, p.1 ∙ sym q.1)
 
 pub batch_determined :
-    (κs : _) (state words records : Bor (List ℕ)) (r s : ℕ) (left left' written written' : Bor (List ℕ))
+    (κs : _) (state : MutBor (List ℕ)) (words : Bor (List ℕ)) (records : MutBor (List ℕ)) (r s : ℕ) (left left' written written' : MutBor (List ℕ))
     → batch_reads.Post κs (state, (words, (records, tt))) r (left, (words, (written, tt)))
     → batch_reads.Post κs (state, (words, (records, tt))) s (left', (words, (written', tt)))
     → (r ≡ s) × (left.now ≡ left'.now) × (written.now ≡ written'.now)
@@ -59,7 +60,7 @@ batch_determined κs state words records r s left left' written written' p q =
     (p.0 ∙ sym q.0, p.1.0 ∙ sym q.1.0, p.1.1 ∙ sym q.1.1)
 
 pub name_determined :
-    (κs : _) (state : Bor (List ℕ)) (n r s : ℕ) (left left' : Bor (List ℕ))
+    (κs : _) (state : MutBor (List ℕ)) (n r s : ℕ) (left left' : MutBor (List ℕ))
     → name_reads.Post κs (state, (n, tt)) r (left, (n, tt)) → name_reads.Post κs (state, (n, tt)) s (left', (n, tt))
     → (r ≡ s) × (left.now ≡ left'.now)
 name_determined κs state n r s left left' p q = (p.0 ∙ sym q.0, p.1 ∙ sym q.1)
@@ -78,13 +79,13 @@ pub held_byte_determined :
 held_byte_determined κs state r s p q = p ∙ sym q
 
 pub wire_begin_determined :
-    (κs : _) (held : Bor (List ℕ)) (r s : ℕ) (left left' : Bor (List ℕ))
+    (κs : _) (held : MutBor (List ℕ)) (r s : ℕ) (left left' : MutBor (List ℕ))
     → wire_begin_reads.Post κs (held, tt) r (left, tt) → wire_begin_reads.Post κs (held, tt) s (left', tt)
     → (r ≡ s) × (left.now ≡ left'.now)
 wire_begin_determined κs held r s left left' p q = (p.0 ∙ sym q.0, p.1 ∙ sym q.1)
 
 pub wire_listen_determined :
-    (κs : _) (held samples words : Bor (List ℕ)) (r s : ℕ) (left left' written written' : Bor (List ℕ))
+    (κs : _) (held : MutBor (List ℕ)) (samples : Bor (List ℕ)) (words : MutBor (List ℕ)) (r s : ℕ) (left left' written written' : MutBor (List ℕ))
     → wire_listen_reads.Post κs (held, (samples, (words, tt))) r (left, (samples, (written, tt)))
     → wire_listen_reads.Post κs (held, (samples, (words, tt))) s (left', (samples, (written', tt)))
     → (r ≡ s) × (left.now ≡ left'.now) × (written.now ≡ written'.now)
@@ -92,25 +93,25 @@ wire_listen_determined κs held samples words r s left left' written written' p 
     (p.0 ∙ sym q.0, p.1.0 ∙ sym q.1.0, p.1.1 ∙ sym q.1.1)
 
 pub queue_begin_determined :
-    (κs : _) (queue : Bor (List ℕ)) (r s : ℕ) (left left' : Bor (List ℕ))
+    (κs : _) (queue : MutBor (List ℕ)) (r s : ℕ) (left left' : MutBor (List ℕ))
     → queue_begin_reads.Post κs (queue, tt) r (left, tt) → queue_begin_reads.Post κs (queue, tt) s (left', tt)
     → (r ≡ s) × (left.now ≡ left'.now)
 queue_begin_determined κs queue r s left left' p q = (p.0 ∙ sym q.0, p.1 ∙ sym q.1)
 
 pub queue_put_determined :
-    (κs : _) (queue : Bor (List ℕ)) (w r s : ℕ) (left left' : Bor (List ℕ))
+    (κs : _) (queue : MutBor (List ℕ)) (w r s : ℕ) (left left' : MutBor (List ℕ))
     → queue_put_reads.Post κs (queue, (w, tt)) r (left, (w, tt)) → queue_put_reads.Post κs (queue, (w, tt)) s (left', (w, tt))
     → (r ≡ s) × (left.now ≡ left'.now)
 queue_put_determined κs queue w r s left left' p q = (p.0 ∙ sym q.0, p.1 ∙ sym q.1)
 
 pub queue_take_determined :
-    (κs : _) (queue : Bor (List ℕ)) (r s : ℕ) (left left' : Bor (List ℕ))
+    (κs : _) (queue : MutBor (List ℕ)) (r s : ℕ) (left left' : MutBor (List ℕ))
     → queue_take_reads.Post κs (queue, tt) r (left, tt) → queue_take_reads.Post κs (queue, tt) s (left', tt)
     → (r ≡ s) × (left.now ≡ left'.now)
 queue_take_determined κs queue r s left left' p q = (p.0 ∙ sym q.0, p.1 ∙ sym q.1)
 
 pub chassis_step_determined :
-    (κs : _) (states : Bor (List ℕ)) (n w r s : ℕ) (left left' : Bor (List ℕ))
+    (κs : _) (states : MutBor (List ℕ)) (n w r s : ℕ) (left left' : MutBor (List ℕ))
     → chassis_step_reads.Post κs (states, (n, (w, tt))) r (left, (n, (w, tt))) → chassis_step_reads.Post κs (states, (n, (w, tt))) s (left', (n, (w, tt)))
     → (r ≡ s) × (left.now ≡ left'.now)
 chassis_step_determined κs states n w r s left left' p q = (p.0 ∙ sym q.0, p.1 ∙ sym q.1)

@@ -20,7 +20,6 @@ const UNFIT: u8 = 1;
 const UNFIT_RECORD: u32 = 0x1000_0000;
 
 // Writes an image into the bytes lent.
-#[tactic(auto, using(crate::proofs::Copy::one_more))]
 fn put(image: [u8; image::BYTES], state: &mut [u8])
     requires state_len { length state.old ≡ BYTES }
     requires image_len { length image ≡ BYTES }

@@ -66,7 +66,6 @@ fn load_at(states: &[u8], place: usize) -> Loaded
 }
 
 // Every part is looked at, whether it is an image or not.
-#[tactic(auto, using(crate::proofs::Parts::Looking, crate::proofs::Parts::none_seen, crate::proofs::Parts::looks_on, crate::proofs::Parts::all_seen))]
 fn look(states: &[u8], count: usize) -> Looked
     requires count_bound { count ≤ MOST }
     requires states_len { length states.now ≡ count * BYTES }
@@ -101,7 +100,6 @@ fn pass_part(part: &mut [u8], round: Round, errand: Errand) -> Round
 }
 
 // The parts are passed one after the other, in their place: no list of states is copied.
-#[tactic(auto, using(crate::proofs::Parts::Passing, crate::proofs::Parts::none_passed, crate::proofs::Parts::length_kept, crate::proofs::Parts::all_passed, crate::proofs::Parts::image_waits, crate::proofs::Parts::passes_on))]
 fn pass(states: &mut [u8], places: usize, errand: Errand) -> Round
     requires places_bound { places ≤ MOST }
     requires places_in_bounds { places * BYTES ≤ length states.old }
