@@ -10,6 +10,7 @@ use image::BYTES;
 use script::digit;
 
 // Bytes as digits, the high one of each first.
+#[tactic(auto, using(crate::proofs::Passing::Written, crate::proofs::Passing::written_on, crate::proofs::Passing::written_end))]
 fn digits_of(bytes: [u8; BYTES]) -> [u8; DIGITS]
     ensures { result ≡ hex_of bytes }
 {
@@ -32,6 +33,7 @@ pub fn write(controller: Controller) -> [u8; DIGITS]
 }
 
 // How many hex digits stand in front.
+#[tactic(auto, using(crate::proofs::Passing::Digits, crate::proofs::Passing::digits_on, crate::proofs::Passing::digits_stop, crate::proofs::Passing::digits_end))]
 pub(crate) fn count_digits(text: &[u8]) -> usize
     ensures { result ≡ leading_digits text.now }
 {
@@ -46,6 +48,7 @@ pub(crate) fn count_digits(text: &[u8]) -> usize
 }
 
 // The bytes of an image, where there are digits for all of them.
+#[tactic(auto, using(crate::proofs::Passing::Paired, crate::proofs::Passing::paired_on, crate::proofs::Passing::paired_end, crate::proofs::Passing::each_digit))]
 pub(crate) fn bytes_in(text: &[u8]) -> [u8; BYTES]
     requires text_value { leading_digits text.now ≡ length text.now }
     requires text_len { length text.now ≡ 2 * BYTES }

@@ -11,6 +11,7 @@ use image::load::load;
 
 impl Finding {
     // A text that can be gone on from.
+    #[tactic(auto, unfolding(crate::specs::Findings::is_fit))]
     pub fn is_fit(self) -> bool
         ensures { result ≡ is_fit self }
     {
@@ -26,6 +27,7 @@ impl Finding {
 }
 
 // What bytes are, by the verdict on them, and whether their state is fit.
+#[tactic(auto, unfolding(crate::specs::Findings::finding_of))]
 fn finding_of(verdict: Verdict, fit: bool, out: Out) -> Finding
     ensures { result ≡ finding_of verdict fit out }
 {
@@ -46,6 +48,7 @@ fn finding_of(verdict: Verdict, fit: bool, out: Out) -> Finding
 }
 
 // As many bytes as an image has.
+#[tactic(auto, unfolding(crate::specs::Findings::judged))]
 fn judged(bytes: [u8; image::BYTES]) -> Pasted
     ensures { result ≡ judged bytes }
 {
@@ -61,6 +64,7 @@ fn judged(bytes: [u8; image::BYTES]) -> Pasted
 }
 
 // A text that isn't as many bytes.
+#[tactic(auto, unfolding(crate::specs::Findings::unread))]
 fn unread(finding: Finding) -> Pasted
     ensures { result ≡ unread finding }
 {
@@ -71,6 +75,7 @@ fn unread(finding: Finding) -> Pasted
     }
 }
 
+#[tactic(auto, unfolding(crate::specs::Findings::pasted_of))]
 pub fn read(text: &[u8]) -> Pasted
     ensures { result ≡ pasted_of text.now }
 {

@@ -118,6 +118,7 @@ fn lasts_with(pulse: u16, wait: u16) -> [u16; RANGED]
     ]
 }
 
+#[tactic(auto, unfolding(crate::specs::Ranges::lasts))]
 fn lasts(kind: Kind) -> [u16; RANGED]
     ensures { result ≡ lasts kind }
 {
@@ -128,6 +129,7 @@ fn lasts(kind: Kind) -> [u16; RANGED]
 }
 
 // How many numbers come before the first that is out of its range.
+#[tactic(auto, using(crate::proofs::Passing::Within, crate::proofs::Passing::within_on, crate::proofs::Passing::within_stop, crate::proofs::Passing::within_end))]
 fn first_out(numbers: &[u16], lasts: &[u16]) -> usize
     requires { length numbers.now ≡ length lasts.now }
     ensures { result ≡ first_out numbers.now lasts.now }
@@ -143,6 +145,7 @@ fn first_out(numbers: &[u16], lasts: &[u16]) -> usize
 }
 
 // The first number that is out of its range; where none is, all 0.
+#[tactic(auto, using(crate::proofs::Fit::out_found, crate::proofs::Fit::out_none))]
 pub(crate) fn out_of(machine: Machine) -> Out
     ensures { result ≡ out_of machine }
 {
