@@ -9,8 +9,7 @@ use lib.Dec.{eqb, ltb}
 use lib.ListN.{length, get_or}
 use lib.Seq.{get_or-set_other}
 use borrow.Author.Tests.{ne_eqb}
-use Rattle.bytes.specs.Bytes.{index_of}
-use Rattle.script.specs.Text.{characters, blank, leading, trimmed, first, rest, spelled, spelled64}
+use Rattle.script.specs.Text.{characters, blank, leading, trimmed, first, rest, spelled, spelled64, index_of}
 use Rattle.script.specs.Verbs.{name, verbs, verb_of}
 use Rattle.script.specs.Arguments.{digit_of, is_octet, octet_of, word_of as word_in, pair_of, count_from, count_of, ticks_of, is_small, small_of, further_of, follows_at, all_further, further_values}
 use Rattle.script.specs.Hands.{only, bay_of, kind_of, pulls, raises, insert_line, hand_line}
@@ -18,7 +17,7 @@ use Rattle.script.specs.Lines.{given, reset_line, take_line, write_line, span, r
 use Rattle.script.specs.declared.Order.{Order}
 use Rattle.script.specs.declared.Line.{Line}
 use Rattle.script.specs.declared.Line.TheVariants.{Blank, Unknown, Misused, Mishandled, Does}
-use Rattle.script.specs.declared.Order.TheVariants.{Event as One, Ticks, Write, Address, Load, Name, Docks, Choose}
+use Rattle.script.specs.declared.Order.TheVariants.{Event as One, Ticks, Write, Address, Load, Name, Choose}
 use Rattle.script.proofs.OneWord.{load_argument, load_line}
 use Rattle.event.specs.Words.{unpacked, word_of, straps_of, packed, Bytes}
 use Rattle.event.specs.declared.Event.{Event}

@@ -11,6 +11,7 @@ use dock::Controller;
 pub(crate) const AT_REST: u8 = 0xFF;
 
 // The record of a number; one that has no place is a fresh dock's.
+#[tactic(auto, unfolding(crate::specs::Docks::record_at))]
 pub(crate) fn record_at(chassis: Chassis, dock: u8) -> Controller
     ensures { result ≡ record_at dock chassis }
 {
@@ -23,6 +24,7 @@ pub(crate) fn record_at(chassis: Chassis, dock: u8) -> Controller
 }
 
 // Another record at it.
+#[tactic(auto, unfolding(crate::specs::Docks::with_record))]
 pub(crate) fn with_record(chassis: Chassis, dock: u8, controller: Controller) -> Chassis
     ensures { result ≡ with_record dock controller chassis }
 {
@@ -37,6 +39,7 @@ pub(crate) fn with_record(chassis: Chassis, dock: u8, controller: Controller) ->
 }
 
 // The levels of a number; one that has no place has them at rest.
+#[tactic(auto, unfolding(crate::specs::Docks::levels_at))]
 pub(crate) fn levels_at(levels: [u8; MOST], dock: u8) -> u8
     ensures { result ≡ levels_at dock levels }
 {
@@ -47,6 +50,7 @@ pub(crate) fn levels_at(levels: [u8; MOST], dock: u8) -> u8
     levels[at]
 }
 
+#[tactic(auto, unfolding(crate::specs::Docks::with_levels))]
 pub(crate) fn with_levels(levels: [u8; MOST], dock: u8, given: u8) -> [u8; MOST]
     ensures { result ≡ with_levels dock given levels }
 {
@@ -67,6 +71,7 @@ pub(crate) fn is_on(chassis: Chassis, dock: u8) -> bool
 }
 
 // The chosen dock is.
+#[tactic(auto, unfolding(crate::specs::Orders::is_there))]
 pub(crate) fn is_there(bench: Bench) -> bool
     ensures { result ≡ is_there bench }
 {

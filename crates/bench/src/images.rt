@@ -34,6 +34,7 @@ pub(crate) fn tell_image(out: Stdout, controller: Controller) {
 }
 
 // The chosen dock goes on from the image, or stays as it was.
+#[tactic(auto, unfolding(crate::specs::Orders::loaded_by))]
 pub(crate) fn load(out: Stdout, bench: Bench, text: &[u8]) -> Bench
     ensures { result ≡ loaded_by (pasted_of text.now) bench }
 {

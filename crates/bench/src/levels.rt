@@ -10,6 +10,7 @@ use dock::Controller;
 use event::{Event, Unpacked};
 
 // Inputs, each by its weight, go to 0; the others stay.
+#[tactic(auto, unfolding(crate::specs::Levels::pulled))]
 pub(crate) fn pulled(levels: u8, inputs: u8) -> u8
     ensures { result ≡ pulled levels inputs }
 {
@@ -17,6 +18,7 @@ pub(crate) fn pulled(levels: u8, inputs: u8) -> u8
 }
 
 // They go to 1.
+#[tactic(auto, unfolding(crate::specs::Levels::raised))]
 pub(crate) fn raised(levels: u8, inputs: u8) -> u8
     ensures { result ≡ raised levels inputs }
 {
@@ -24,6 +26,7 @@ pub(crate) fn raised(levels: u8, inputs: u8) -> u8
 }
 
 // A PINS and a RESET give levels.
+#[tactic(auto, unfolding(crate::specs::Levels::given_by))]
 fn given_by(event: Event, levels: u8) -> u8
     ensures { result ≡ given_by event levels }
 {
@@ -44,6 +47,7 @@ fn given_by(event: Event, levels: u8) -> u8
 }
 
 // The levels of all docks after a word, by the answer to it, with the number beside it: a word that is refused gives none.
+#[tactic(auto, unfolding(crate::specs::Levels::levels_after))]
 pub(crate) fn levels_after(answer: Answer, word: u16, dock: u8, levels: [u8; MOST]) -> [u8; MOST]
     ensures { result ≡ levels_after answer (unpacked word) dock levels }
 {
@@ -65,6 +69,7 @@ fn weighed(level: bool, weight: u8) -> u8
 }
 
 // The levels that a bay has stored, in its four bits.
+#[tactic(auto, unfolding(crate::specs::Levels::bay_levels))]
 fn bay_levels(bay: Bay) -> u8
     ensures value { result ≡ bay_levels bay }
     ensures upper_bound { result ≤ 15 }
@@ -76,6 +81,7 @@ fn bay_levels(bay: Bay) -> u8
 }
 
 // The levels that a dock has stored: those of its last samples.
+#[tactic(auto, unfolding(crate::specs::Levels::levels_in))]
 pub(crate) fn levels_in(controller: Controller) -> u8
     ensures { result ≡ levels_in controller.machine }
 {

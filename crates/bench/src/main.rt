@@ -100,6 +100,7 @@ struct Done {
 const LONGEST: usize = 255;
 
 // What a line does: one that isn't understood changes nothing.
+#[tactic(auto, unfolding(crate::specs::Orders::heeded))]
 fn heed(out: Stdout, bench: Bench, number: u64, line: &[u8]) -> Heeded
     ensures { result ≡ heeded line.now bench }
 {

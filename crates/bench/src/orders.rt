@@ -45,6 +45,7 @@ fn one(out: Stdout, bench: Bench, word: u16) -> Bench
 }
 
 // The call that names a kind: it is no event, and changes nothing that is told besides.
+#[tactic(auto, unfolding(crate::specs::Orders::named_as))]
 fn name(out: Stdout, bench: Bench, number: u8) -> Bench
     ensures { result ≡ named_as number bench }
 {
@@ -91,6 +92,7 @@ fn tell_tick(out: Stdout, i: u16, answer: Answer, before: Bench, after: Bench) -
 }
 
 // So many TICKs.
+#[tactic(auto, using(crate::proofs::InTurn::once_more), unfolding(crate::specs::Orders::after_words))]
 fn ticks(out: Stdout, bench: Bench, count: u16) -> Bench
     ensures { result ≡ after_words bench (replicate count (word_for Tick)) }
 {
@@ -134,6 +136,7 @@ fn tell_image_of(out: Stdout, bench: Bench) {
 
 impl Bench {
     // So many fresh docks on the bus.
+    #[tactic(auto, unfolding(crate::specs::Orders::fresh_docks))]
     fn of(count: usize, address: u8) -> Bench
         ensures { result ≡ fresh_docks count address }
     {
@@ -149,6 +152,7 @@ impl Bench {
     }
 
     // A bench that nothing has been done to.
+    #[tactic(auto, unfolding(crate::specs::Orders::fresh_bench))]
     pub(crate) fn fresh() -> Bench
         ensures { result ≡ fresh_bench }
     {
@@ -156,6 +160,7 @@ impl Bench {
     }
 
     // An order, with the word beside its verb.
+    #[tactic(auto, unfolding(crate::specs::Orders::obeyed, crate::specs::Orders::words_of, crate::specs::Orders::after_words))]
     pub(crate) fn obey(self, out: Stdout, order: Order, text: &[u8]) -> Bench
         ensures { result ≡ obeyed order text.now self }
     {

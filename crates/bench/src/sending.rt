@@ -17,6 +17,7 @@ pub(crate) fn word_for(event: Event) -> u16
 }
 
 // One word, by the chassis's call with the number of the chosen dock.
+#[tactic(auto, unfolding(crate::specs::Orders::sent_of))]
 pub(crate) fn step(bench: Bench, word: u16) -> Sent
     ensures { result ≡ sent_of bench word }
 {

@@ -18,6 +18,7 @@ use std::io::Stdout;
 const REGISTERS: usize = 256;
 
 // The values of a write after its first, which the text holds.
+#[tactic(auto, using(crate::proofs::InTurn::value_more), unfolding(crate::specs::Orders::after_words, script::specs::Arguments::further_values))]
 fn give(out: Stdout, bench: Bench, more: u8, text: &[u8]) -> Bench
     ensures { result ≡ after_words bench (map byte_word (further_values text.now more)) }
 {
@@ -31,6 +32,7 @@ fn give(out: Stdout, bench: Bench, more: u8, text: &[u8]) -> Bench
 }
 
 // A whole write.
+#[tactic(auto, using(crate::proofs::InTurn::one_after_the_other), unfolding(crate::specs::Orders::after_words))]
 pub(crate) fn write(
     out: Stdout,
     bench: Bench,
@@ -66,6 +68,7 @@ fn keep(given: &mut [u8], at: usize, answer: Answer) -> usize
 }
 
 // The TAKEs of a read, the last without ACK; the bytes that were driven come into the buffer.
+#[tactic(auto, using(crate::proofs::InTurn::one_after_the_other, crate::proofs::InTurn::once_more), unfolding(crate::specs::Orders::after_words))]
 fn take(out: Stdout, bench: Bench, more: u8, given: &mut [u8]) -> Took
     ensures bench_value { result.bench ≡ after_words bench (take_words more) }
     ensures count_in_bounds { result.count ≤ length given.new }
@@ -88,6 +91,7 @@ fn take(out: Stdout, bench: Bench, more: u8, given: &mut [u8]) -> Took
 }
 
 // A whole read, and what the bytes say that were driven.
+#[tactic(auto, unfolding(crate::specs::Orders::after_words))]
 pub(crate) fn read(out: Stdout, bench: Bench, register: u8, more: u8) -> Bench
     ensures { result ≡ after_words bench (read_words bench.address register more) }
 {

@@ -1,49 +1,42 @@
--- Decimal digits: the fewest digits that hold a number are those of the definition; read again they give the number, and the first
+-- Decimal digits: those that the library writes of a number are those of the definition; read again they give the number, and the first
 -- of them is 0 only for 0. Assumes nothing.
 use Prim.Native.Nat.{ℕ, zero, suc, ◌+◌, ◌-◌, ◌*◌, ◌/◌, ◌%◌, ◌^◌, ◌≤◌, ◌<◌}
 use Prim.Native.Char.{code}
 use native.Mathlib.Omega.{arith}
-use native.Mathlib.Numerals.{unary_clauses}
-use native.Mathlib.Nat.{pow-suc, one-le-pow, pow-le-pow_right}
-use mathlib.Core.Path.{◌≡◌, refl, ap}
+use native.Mathlib.Nat.{pow-suc}
+use mathlib.Core.Path.{◌≡◌, refl, ap, ◌∙◌}
 use mathlib.Core.Bool.{Bool, true, false, cond}
 use mathlib.Core.List.{List, [], ◌∷◌, ◌++◌}
 use lib.ListN.{length, get_or, length-append}
 use lib.Dec.{ltb}
-use borrow.Author.Tests.{lt-ltb, le-ltb, ltb-true, ltb-false}
-use Rattle.io.specs.Digits.{hex_digit_ascii, last_digits, IsDigitCount}
+use borrow.Author.Tests.{ltb-true, ltb-false}
+use Rattle.std.specs.Fmt.{decimal}
+use Rattle.std.proofs.lemmas.Fmt.{decimal_digit, decimal_step}
 use Rattle.capture.specs.Number.{last_digit, decimal_in, decimal_of}
 
--- ---- the digits that `io::decimal` puts out
+-- ---- the digits of the library
 
-same_digit : (n : ℕ) → hex_digit_ascii (n % 10) ≡ last_digit n
-same_digit n = rw (lt-ltb (n % 10) 10 (omega arith))
+-- Its text goes on digit by digit as the definition does: one digit, or those of the tenth part and one more.
+one_more : (n : ℕ) (ds : List ℕ) (b : Bool) → n < 2 ^ 64 → ltb n 10 ≡ b → decimal (n / 10) ≡ ds → decimal n ≡ cond b (last_digit n ∷ []) (ds ++ (last_digit n ∷ []))
+one_more n ds true w e r =
+    let h : n < 10 = ltb-true n 10 e in
+    let same : n ≡ n % 10 = omega (arith, h) in
+    decimal_digit n h ∙ ap (λ d. (48 + d) ∷ []) same
+one_more n ds false w e r = decimal_step n (ltb-false n 10 e) w ∙ ap (λ ds. ds ++ (last_digit n ∷ [])) r
 
-digits_in : (k r n : ℕ) → r ≤ k → n < 10 ^ suc r → (0 < r → 10 ^ r ≤ n) → last_digits 10 (suc r) n ≡ decimal_in k n
+digits_in : (k n : ℕ) → n < 10 ^ suc k → n < 2 ^ 64 → decimal n ≡ decimal_in k n
 unfolding decimal_in
-digits_in zero zero n l lt ge = rw (same_digit n)
-digits_in zero (suc r) n l lt ge = absurd (omega arith)
-digits_in (suc k) zero n l lt ge = rw (lt-ltb n 10 (omega (arith, lt, pow-suc 10 0)), same_digit n)
-digits_in (suc k) (suc r) n l lt ge =
-    rw (le-ltb n 10 (omega (arith, ge (omega arith), pow-suc 10 r, one-le-pow r 10 (omega arith))), same_digit n)
-    (ap (λ ds. ds ++ (last_digit n ∷ []))
-    (digits_in k r (n / 10) (omega arith) (omega (arith, lt, pow-suc 10 (suc r))) (λ p. omega (arith, ge (omega arith), pow-suc 10 r))))
+digits_in zero n l w =
+    let h : n < 10 = omega (arith, l, pow-suc 10 0) in
+    let same : n ≡ n % 10 = omega (arith, h) in
+    decimal_digit n h ∙ ap (λ d. (48 + d) ∷ []) same
+digits_in (suc k) n l w =
+    one_more n (decimal_in k (n / 10)) (ltb n 10) w refl
+    (digits_in k (n / 10) (omega (arith, l, pow-suc 10 (suc k))) (omega (arith, w)))
 
--- A number of 64 bits has no more than 20.
-pub fewest_most : (n r : ℕ) → n < 2 ^ 64 → IsDigitCount 10 1 n r → r ≤ 20
-fewest_most n r l f = go (ltb 20 r) refl
-  where
-    go : (b : Bool) → ltb 20 r ≡ b → r ≤ 20
-    go true e =
-        let over : 20 < r = ltb-true 20 r e in
-        absurd (omega (arith, l, f.2 (omega arith), pow-le-pow_right {n = 10} (omega arith) {i = 20} {j = r - 1} (omega arith)))
-    go false e = ltb-false 20 r e
-
-pub fewest_decimal : (n r : ℕ) → n < 2 ^ 64 → IsDigitCount 10 1 n r → last_digits 10 r n ≡ decimal_of n
+pub same_decimal : (n : ℕ) → n < 2 ^ 64 → decimal n ≡ decimal_of n
 unfolding decimal_of
-fewest_decimal n zero l f = absurd (omega (arith, f.0))
-fewest_decimal n (suc r) l f =
-    digits_in 19 r n (omega (arith, fewest_most n (suc r) l f)) f.1 (λ p. simp unary_clauses at (f.2 (omega arith)))
+same_decimal n l = digits_in 19 n (omega arith) l
 
 -- ---- what they say
 

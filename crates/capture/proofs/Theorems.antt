@@ -1,10 +1,10 @@
 -- The text of a capture (document 02, request 7), of what the compiled functions return: however the samples are cut into pieces, what
 -- they put out, joined, is the text of the whole capture; and its two forms tell the same words. Assumes nothing.
-use Prim.Native.Nat.{ℕ, ◌+◌}
+use Prim.Native.Nat.{ℕ}
 use mathlib.Core.Path.{◌≡◌, refl, ap, sym, ◌∙◌}
 use mathlib.Core.List.{List, [], ◌∷◌, ◌++◌, append_assoc, flatten}
-use lib.ListN.{length, take}
-use denote.Ref.{Bor}
+use lib.ListN.{take}
+use denote.Ref.{Bor, MutBor}
 use Rattle.dock.specs.Record.{fresh_controller}
 use Rattle.dock.specs.Step.{step_of}
 use Rattle.dock.specs.Run.{after, answers_to}
@@ -30,22 +30,22 @@ use Rattle.capture.proofs.pieces.feed.Reads as feed_call
 -- The pieces so far, what was put out for each, and the capture.
 pub data Called (f : Form) (reset : ℕ) : List (List ℕ) → List (List ℕ) → Capture → Type 0 where
   begin :
-      (κs : _) (output left : Bor (List ℕ)) (r : Fed) → begin_call.Post κs (f, (reset, (output, tt))) r (f, (reset, (left, tt)))
+      (κs : _) (output left : MutBor (List ℕ)) (r : Fed) → begin_call.Post κs (f, (reset, (output, tt))) r (f, (reset, (left, tt)))
       → Called f reset [] (take r.length left.now ∷ []) r.capture
   feed :
-      {pieces texts : List (List ℕ)} {c : Capture} (κs : _) (input output left : Bor (List ℕ)) (r : Fed) → Called f reset pieces texts c
+      {pieces texts : List (List ℕ)} {c : Capture} (κs : _) (input : Bor (List ℕ)) (output left : MutBor (List ℕ)) (r : Fed) → Called f reset pieces texts c
       → feed_call.Post κs (f, (c, (input, (output, tt)))) r (f, (c, (input, (left, tt))))
       → Called f reset (pieces ++ (input.now ∷ [])) (texts ++ (take r.length left.now ∷ [])) r.capture
 
 begin_says :
-    (f : Form) (reset : ℕ) (κs : _) (output left : Bor (List ℕ)) (r : Fed) → begin_call.Post κs (f, (reset, (output, tt))) r (f, (reset, (left, tt)))
+    (f : Form) (reset : ℕ) (κs : _) (output left : MutBor (List ℕ)) (r : Fed) → begin_call.Post κs (f, (reset, (output, tt))) r (f, (reset, (left, tt)))
     → (r.capture ≡ (begun_of f reset).capture) × (take r.length left.now ≡ opening_of f reset)
 unfolding begun_of
 begin_says f reset κs output left r p =
     (ap (λ (x : Fed). x.capture) p.0, put_out (opening_of f reset) output.now (ap (λ (x : Fed). x.length) p.0) p.1)
 
 feed_says :
-    (f : Form) (κs : _) (c : Capture) (input output left : Bor (List ℕ)) (r : Fed)
+    (f : Form) (κs : _) (c : Capture) (input : Bor (List ℕ)) (output left : MutBor (List ℕ)) (r : Fed)
     → feed_call.Post κs (f, (c, (input, (output, tt)))) r (f, (c, (input, (left, tt))))
     → (r.capture ≡ capture_fed c input.now) × (take r.length left.now ≡ text_fed f c input.now)
 unfolding fed_of
@@ -98,13 +98,13 @@ same_dock reset samples =
 -- ---- the contracts determine what they speak of
 
 pub begin_determined :
-    (κs : _) (f : Form) (reset : ℕ) (output left left' : Bor (List ℕ)) (r r' : Fed)
+    (κs : _) (f : Form) (reset : ℕ) (output left left' : MutBor (List ℕ)) (r r' : Fed)
     → begin_call.Post κs (f, (reset, (output, tt))) r (f, (reset, (left, tt)))
     → begin_call.Post κs (f, (reset, (output, tt))) r' (f, (reset, (left', tt))) → (r ≡ r') × (left.now ≡ left'.now)
 begin_determined κs f reset output left left' r r' p q = (p.0 ∙ sym q.0, p.1 ∙ sym q.1)
 
 pub feed_determined :
-    (κs : _) (f : Form) (c : Capture) (input output left left' : Bor (List ℕ)) (r r' : Fed)
+    (κs : _) (f : Form) (c : Capture) (input : Bor (List ℕ)) (output left left' : MutBor (List ℕ)) (r r' : Fed)
     → feed_call.Post κs (f, (c, (input, (output, tt)))) r (f, (c, (input, (left, tt))))
     → feed_call.Post κs (f, (c, (input, (output, tt)))) r' (f, (c, (input, (left', tt)))) → (r ≡ r') × (left.now ≡ left'.now)
 feed_determined κs f c input output left left' r r' p q = (p.0 ∙ sym q.0, p.1 ∙ sym q.1)

@@ -32,6 +32,7 @@ pub struct Setup {
     pub fault: Fault,
 }
 
+#[tactic(auto, unfolding(crate::specs::Arguments::asks_words))]
 fn asks_words(text: &[u8]) -> bool
     ensures { result ≡ asks_words text.now }
 {
@@ -45,6 +46,7 @@ fn asks_words(text: &[u8]) -> bool
         & (text[4] == b's')
 }
 
+#[tactic(auto, unfolding(crate::specs::Arguments::wish_of))]
 pub(crate) fn wished(text: &[u8]) -> Wish
     ensures { result ≡ wish_of text.now }
 {
@@ -64,6 +66,7 @@ pub(crate) fn wished(text: &[u8]) -> Wish
 
 impl Setup {
     // No argument: lines, from a RESET with nothing in either bay.
+    #[tactic(auto, unfolding(crate::specs::Arguments::plain_setup))]
     pub fn plain() -> Setup
         ensures { result ≡ plain_setup }
     {
@@ -121,6 +124,7 @@ impl Setup {
     }
 
     // One argument more.
+    #[tactic(auto, unfolding(crate::specs::Arguments::asked))]
     pub fn asked(self, wish: Wish) -> Setup
         ensures { result ≡ asked self wish }
     {

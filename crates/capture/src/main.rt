@@ -38,6 +38,7 @@ struct Piece {
 }
 
 // The header and the RESET.
+#[tactic(auto, using(lines::proofs::Written::written_holds), unfolding(crate::specs::Pieces::begun_of))]
 fn opened(out: Stdout, form: Form, reset: u16) -> Piece
     ensures { result.capture ≡ (begun_of form reset).capture }
 {
@@ -50,6 +51,7 @@ fn opened(out: Stdout, form: Form, reset: u16) -> Piece
 }
 
 // The text of what a read has given.
+#[tactic(auto, using(lines::proofs::Written::written_holds), unfolding(crate::specs::Pieces::fed_of))]
 fn told(out: Stdout, form: Form, capture: Capture, input: &[u8]) -> Piece
     requires input_len_bound { length input.now ≤ 1024 }
     requires count_bound { capture.count + 1024 ≤ 0x8000_0000_0000_0000 }
@@ -86,6 +88,7 @@ fn failed(err: Stderr, capture: Capture) -> Piece
     }
 }
 
+#[tactic(auto, using(lines::proofs::Sign::within), unfolding(crate::specs::Pieces::capture_fed))]
 fn next_piece(mut input: Stdin, out: Stdout, err: Stderr, form: Form, capture: Capture) -> Piece
     requires { capture.count + 1024 ≤ 0x8000_0000_0000_0000 }
     ensures { result.capture.count ≤ capture.count + 1024 }
@@ -103,9 +106,10 @@ fn next_piece(mut input: Stdin, out: Stdout, err: Stderr, form: Form, capture: C
     }
 }
 
+#[tactic(auto, unfolding(crate::specs::Pieces::begun_of, crate::specs::Pieces::capture_given))]
 fn run(rt: HostRuntime, form: Form, reset: u16) {
     let mut piece = opened(rt.stdout(), form, reset);
-    for _ in 0..PIECES {
+    for n in 0..PIECES {
         if !piece.more {
             return;
         }

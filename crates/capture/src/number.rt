@@ -7,6 +7,7 @@ use itoa::Buffer;
 use lines::text::copy;
 
 // The digits, without leading zeros, at the start of the buffer. Answers how many they are.
+#[tactic(auto, using(crate::proofs::Digits::same_decimal, crate::proofs::Digits::decimal_most))]
 pub(crate) fn decimal(n: u64, output: &mut [u8]) -> usize
     requires { 20 ≤ length output.old }
     ensures value { result ≡ length (decimal_of n) }

@@ -31,6 +31,7 @@ pub struct Fed {
 }
 
 // One word goes into the dock.
+#[tactic(auto, using(crate::proofs::Cut::line_text, crate::proofs::Cut::bare_text, crate::proofs::Cut::word_given))]
 fn give(form: Form, capture: Capture, word: u16, output: &mut [u8]) -> Fed
     requires { 37 ≤ length output.old }
     ensures value { result ≡ given_of form capture (word ∷ []) }
@@ -56,6 +57,7 @@ fn give(form: Form, capture: Capture, word: u16, output: &mut [u8]) -> Fed
 }
 
 // The word of the event that a sample has given, where it has given one.
+#[tactic(auto, using(lines::proofs::Written::written_none, crate::proofs::Cut::no_words, crate::proofs::Cut::none_given))]
 fn give_event(form: Form, capture: Capture, given: Given, output: &mut [u8]) -> Fed
     requires { 37 ≤ length output.old }
     ensures value { result ≡ given_of form capture (spelled given) }
@@ -68,6 +70,7 @@ fn give_event(form: Form, capture: Capture, given: Given, output: &mut [u8]) -> 
 }
 
 // The TICK after a sample, where it is time for one.
+#[tactic(auto, using(lines::proofs::Written::written_none, crate::proofs::Cut::no_words, crate::proofs::Cut::none_given), unfolding(crate::specs::Rows::tick_at, event::specs::Words::packed, event::specs::Words::straps_of))]
 fn give_tick(form: Form, capture: Capture, output: &mut [u8]) -> Fed
     requires { 37 ≤ length output.old }
     ensures value { result ≡ given_of form capture (tick_at capture.count) }
@@ -80,6 +83,7 @@ fn give_tick(form: Form, capture: Capture, output: &mut [u8]) -> Fed
 }
 
 // One sample.
+#[tactic(auto, using(crate::proofs::Calls::event_room, crate::proofs::Calls::both_short, crate::proofs::Calls::sample_heard))]
 fn hear(form: Form, capture: Capture, sample: u8, output: &mut [u8]) -> Fed
     requires in_bounds { 74 ≤ length output.old }
     requires count_bound { capture.count + 1 < 2 ^ 64 }
@@ -112,6 +116,7 @@ fn hear(form: Form, capture: Capture, sample: u8, output: &mut [u8]) -> Fed
 }
 
 // A piece of the input. The buffer has room for two lines for each sample.
+#[tactic(auto, using(lines::proofs::Telling::Heard, lines::proofs::Telling::none_heard, lines::proofs::Telling::byte_most, lines::proofs::Telling::one_more, lines::proofs::Telling::length_kept, lines::proofs::Telling::one_fits, lines::proofs::Telling::all_heard, crate::proofs::Loop::telling, crate::proofs::Loop::count_heard), unfolding(crate::specs::Pieces::fed_of))]
 pub(crate) fn feed(form: Form, capture: Capture, input: &[u8], output: &mut [u8]) -> Fed
     requires input_in_bounds { 74 * length input.now ≤ length output.old }
     requires input_bound { capture.count + length input.now < 2 ^ 64 }
@@ -134,6 +139,7 @@ pub(crate) fn feed(form: Form, capture: Capture, input: &[u8], output: &mut [u8]
 }
 
 // Bare words have no header.
+#[tactic(auto, unfolding(lines::specs::Text::written, crate::specs::Pieces::header_for))]
 fn header(form: Form, output: &mut [u8]) -> usize
     requires { 29 ≤ length output.old }
     ensures value { result ≡ length (header_for form) }
@@ -146,6 +152,7 @@ fn header(form: Form, output: &mut [u8]) -> usize
 }
 
 // The header, and the RESET that no capture has.
+#[tactic(auto, using(crate::proofs::Calls::header_room, crate::proofs::Calls::start_short, crate::proofs::Calls::start_begun))]
 pub(crate) fn begin(form: Form, reset: u16, output: &mut [u8]) -> Fed
     requires { 66 ≤ length output.old }
     ensures value { result ≡ begun_of form reset }

@@ -17,6 +17,7 @@ pub enum Form {
 }
 
 // A line with its number in front.
+#[tactic(auto, using(lines::proofs::Written::copied, lines::proofs::Written::put_next, lines::proofs::Written::put_within, crate::proofs::Digits::decimal_most), unfolding(lines::specs::Text::written, lines::specs::Line::line_of, crate::specs::Rows::row_line))]
 pub(crate) fn row(number: u64, word: u16, answer: Answer, output: &mut [u8]) -> usize
     requires { 37 ≤ length output.old }
     ensures value { result ≡ length (row_line number word answer) }
@@ -28,6 +29,7 @@ pub(crate) fn row(number: u64, word: u16, answer: Answer, output: &mut [u8]) -> 
 }
 
 // A bare word, high byte first.
+#[tactic(auto, unfolding(pairs::specs::Pairs::bytes_of, lines::specs::Text::written))]
 pub(crate) fn bare(word: u16, output: &mut [u8]) -> usize
     requires { 2 ≤ length output.old }
     ensures value { result ≡ length (bytes_of (word ∷ [])) }

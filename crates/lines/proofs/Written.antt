@@ -24,7 +24,7 @@ pub written_length : (text buffer : List ℕ) → length text ≤ length buffer 
 unfolding written
 written_length text buffer l = length-append text (drop (length text) buffer) ∙ omega (arith, length-drop (length text) buffer)
 
--- What `bytes::copy` says of a text that it has copied.
+-- What a copy leaves of a text that another has spelled.
 pub copied :
     (text buffer : List ℕ) {source left : List ℕ} {n : ℕ} → source ≡ text → n ≡ length source
     → left ≡ take (length source) source ++ drop (length source) buffer → (n ≡ length text) × (left ≡ written text buffer)
