@@ -5,43 +5,39 @@ use native.Mathlib.Omega.{arith}
 use mathlib.Core.Path.{◌≡◌, refl, sym, ◌∙◌}
 use mathlib.Core.Logic.{◌↔◌, ◌≢◌}
 use mathlib.Core.Bool.{Bool, true, false, cond, true≢false, false≢true}
-use mathlib.Core.List.{List, [], ◌∷◌}
-use lib.Dec.{T, ltb}
+use mathlib.Core.List.{List}
+use lib.Dec.{ltb}
 use borrow.Author.Tests.{ltb-true, ltb-false}
-use denote.Enum.Declared.{tag_of}
-use Rattle.bus.proofs.Cases.{among}
 use Rattle.machine.specs.Record.{fits}
 use Rattle.dock.specs.declared.Controller.{Controller}
 use Rattle.batch.specs.Batch.{outcome_of, state_by, buffer_by}
-use Rattle.batch.specs.Outcome.{outcome_refusal, outcome_count}
-use Rattle.batch.specs.declared.Outcome.{Outcome}
-use Rattle.batch.specs.declared.Outcome.TheVariants.{Done, Unfit, TooFewBytes, TooManyWords}
-use Rattle.batch.specs.contracts.Outcome.{the_type}
+use Rattle.calls.specs.Numbers.{Outcome, outcome_refusal, outcome_count}
+use Rattle.calls.specs.declared.Refusal.{Refusal}
+use Rattle.calls.specs.declared.Refusal.TheVariants.{TooFewPlaces, TooMany, Unfit}
+use Rattle.std.specs.Prelude.{Err, Ok}
 
-not_done : {n : ℕ} {o : Outcome} → o ≡ Done n → T (among (tag_of the_type o) (1 ∷ 2 ∷ 3 ∷ [])) → ⊥
-not_done e h = rw e at h
+not_done : {n : ℕ} {why : Refusal} → ◌≡◌ {A = Outcome} (Err why) (Ok n) → ⊥
+not_done e = let z : ◌≡◌ {A = ℕ} 0 1 = cc in omega arith
 
 -- Its state was fit, it had room for a record a word, and it counts its words.
-pub has_room : (s : Controller) (words bytes n : ℕ) → outcome_of s words bytes ≡ Done n → (fits s.machine ≡ true) × (4 * words ≤ bytes) × (n ≡ words)
+pub has_room : (s : Controller) (words bytes n : ℕ) → outcome_of s words bytes ≡ Ok n → (fits s.machine ≡ true) × (4 * words ≤ bytes) × (n ≡ words)
 unfolding outcome_of
 has_room s words bytes n e = go (fits s.machine) (ltb 16384 words) (ltb bytes (4 * words)) refl refl e
   where
     go :
         (f m b : Bool) → fits s.machine ≡ f → ltb bytes (4 * words) ≡ b
-        → cond f (cond m TooManyWords (cond b TooFewBytes (Done words))) Unfit ≡ Done n
+        → cond f (cond m (Err TooMany) (cond b (Err TooFewPlaces) (Ok words))) (Err Unfit) ≡ Ok n
         → (fits s.machine ≡ true) × (4 * words ≤ bytes) × (n ≡ words)
-    go true true b p t e = absurd (not_done e tt)
-    go true false true p t e = absurd (not_done e tt)
+    go true true b p t e = absurd (not_done e)
+    go true false true p t e = absurd (not_done e)
     go true false false p t e = (p, ltb-false bytes (4 * words) t, cc)
-    go false m b p t e = absurd (not_done e tt)
+    go false m b p t e = absurd (not_done e)
 
 pub as_it_came :
-    (o : Outcome) → T (among (tag_of the_type o) (1 ∷ 2 ∷ 3 ∷ [])) → (s : Controller) (ws buffer : List ℕ)
+    (o : Outcome) → ((n : ℕ) → o ≡ Ok n → ⊥) → (s : Controller) (ws buffer : List ℕ)
     → (state_by o s ws ≡ s) × (buffer_by o s ws buffer ≡ buffer)
-as_it_came (Done n) h s ws buffer = absurd h
-as_it_came Unfit h s ws buffer = (refl, refl)
-as_it_came TooFewBytes h s ws buffer = (refl, refl)
-as_it_came TooManyWords h s ws buffer = (refl, refl)
+as_it_came (Ok n) h s ws buffer = absurd (h n refl)
+as_it_came (Err why) h s ws buffer = (refl, refl)
 
 -- ---- each refusal exactly when the table says, in their order: 1, 5, 4
 
@@ -61,7 +57,7 @@ exactly s words bytes = go (fits s.machine) refl (ltb 16384 words) refl (ltb byt
   where
     go :
         (f : Bool) → fits s.machine ≡ f → (m : Bool) → ltb 16384 words ≡ m → (b : Bool) → ltb bytes (4 * words) ≡ b
-        → Exactly s words bytes (outcome_refusal (cond f (cond m TooManyWords (cond b TooFewBytes (Done words))) Unfit))
+        → Exactly s words bytes (outcome_refusal (cond f (cond m (Err TooMany) (cond b (Err TooFewPlaces) (Ok words))) (Err Unfit)))
     go false f m p b q =
         record {
           one = (λ n. f, λ h. refl);
@@ -103,7 +99,5 @@ pub record Untouched (o : Outcome) (s : Controller) (ws buffer : List ℕ) : Typ
   pub count : outcome_count o ≡ 0
 
 pub refused_untouched : (o : Outcome) (s : Controller) (ws buffer : List ℕ) → outcome_refusal o ≢ 0 → Untouched o s ws buffer
-refused_untouched (Done n) s ws buffer h = absurd (h refl)
-refused_untouched Unfit s ws buffer h = record { state = refl; bytes = refl; count = refl }
-refused_untouched TooFewBytes s ws buffer h = record { state = refl; bytes = refl; count = refl }
-refused_untouched TooManyWords s ws buffer h = record { state = refl; bytes = refl; count = refl }
+refused_untouched (Ok n) s ws buffer h = absurd (h refl)
+refused_untouched (Err why) s ws buffer h = record { state = refl; bytes = refl; count = refl }

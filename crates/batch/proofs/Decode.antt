@@ -7,11 +7,11 @@ use mathlib.Core.Logic.{◌≢◌}
 use Rattle.bus.specs.Reply.{reply_number, reply_byte}
 use Rattle.bus.specs.declared.Reply.{Reply}
 use Rattle.bus.specs.declared.Reply.TheVariants.{Nothing, Ack, NoAck, Driven, NotDriven}
-use Rattle.dock.specs.Answers.{refusal_of, reply_of, byte_of, outputs_of}
-use Rattle.dock.specs.declared.Answer.{Answer}
-use Rattle.dock.specs.declared.Answer.TheVariants.{Done, Unfit, StrayBit, NotStarted}
+use Rattle.dock.specs.Answers.{refusal_of, reply_of, byte_of, outputs_of, Answer, done_with}
 use Rattle.batch.specs.Record.{fields, record_number, bytes_of, record_of}
 use Rattle.batch.specs.Decode.{number_of, reply_by, answer_by, refusal_bits, reply_bits, byte_bits, output_bits, answer_in, decode}
+use Rattle.dock.specs.declared.Refusal.TheVariants.{NotStarted, StrayBit, Unfit}
+use Rattle.std.specs.Prelude.{Err, Ok}
 
 -- Four bytes make the number again.
 bytes_back : (n : ℕ) → n < 4294967296 → number_of (bytes_of n) ≡ n
@@ -37,7 +37,7 @@ fields_back r p b o hr hp hb ho = rw (first, second, third, fourth)
     fourth = omega arith
 
 -- An answer is the one with its numbers.
-reply_back : (r : Reply) (o : ℕ) → answer_by 0 (reply_by (reply_number r) (reply_byte r)) o ≡ Done r o
+reply_back : (r : Reply) (o : ℕ) → answer_by 0 (reply_by (reply_number r) (reply_byte r)) o ≡ done_with r o
 reply_back Nothing o = refl
 reply_back Ack o = refl
 reply_back NoAck o = refl
@@ -45,10 +45,10 @@ reply_back (Driven v) o = refl
 reply_back NotDriven o = refl
 
 answer_back : (a : Answer) → answer_by (refusal_of a) (reply_by (reply_of a) (byte_of a)) (outputs_of a) ≡ a
-answer_back (Done r o) = reply_back r o
-answer_back Unfit = refl
-answer_back (StrayBit o) = refl
-answer_back NotStarted = refl
+answer_back (Ok d) = reply_back d.reply d.outputs
+answer_back (Err Unfit) = refl
+answer_back (Err (StrayBit o)) = refl
+answer_back (Err NotStarted) = refl
 
 pub reply_small : (r : Reply) → reply_number r < 8
 reply_small Nothing = omega arith
@@ -58,10 +58,10 @@ reply_small (Driven v) = omega arith
 reply_small NotDriven = omega arith
 
 numbers_small : (a : Answer) → (refusal_of a < 16) × (reply_of a < 8)
-numbers_small (Done r o) = (omega arith, reply_small r)
-numbers_small Unfit = omega arith
-numbers_small (StrayBit o) = omega arith
-numbers_small NotStarted = omega arith
+numbers_small (Ok d) = (omega arith, reply_small d.reply)
+numbers_small (Err Unfit) = omega arith
+numbers_small (Err (StrayBit o)) = omega arith
+numbers_small (Err NotStarted) = omega arith
 
 number_is : (a : Answer) → byte_of a < 256 → outputs_of a < 512 → record_number a ≡ fields (refusal_of a) (reply_of a) (byte_of a) (outputs_of a)
 unfolding record_number
@@ -86,7 +86,7 @@ reply_past (suc (suc zero)) byte a b c d = absurd (c refl)
 reply_past (suc (suc (suc zero))) byte a b c d = absurd (d refl)
 reply_past (suc (suc (suc (suc n)))) byte a b c d = refl
 
-pub answer_past : (n : ℕ) (reply : Reply) (outputs : ℕ) → n ≢ 0 → n ≢ 1 → n ≢ 2 → answer_by n reply outputs ≡ NotStarted
+pub answer_past : (n : ℕ) (reply : Reply) (outputs : ℕ) → n ≢ 0 → n ≢ 1 → n ≢ 2 → answer_by n reply outputs ≡ Err NotStarted
 answer_past zero reply outputs a b c = absurd (a refl)
 answer_past (suc zero) reply outputs a b c = absurd (b refl)
 answer_past (suc (suc zero)) reply outputs a b c = absurd (c refl)

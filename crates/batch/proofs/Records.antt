@@ -5,8 +5,8 @@ use native.Mathlib.Omega.{arith}
 use mathlib.Core.Path.{◌≡◌, refl, ap, ◌∙◌, sym}
 use mathlib.Core.List.{List, [], ◌∷◌, ◌++◌, append_assoc}
 use lib.ListN.{length, set, length-append}
-use Rattle.dock.specs.declared.Answer.{Answer}
 use Rattle.batch.specs.Record.{record_of, records_of}
+use Rattle.dock.specs.Answers.{Answer}
 
 pub record_length : (a : Answer) → length (record_of a) ≡ 4
 unfolding record_of

@@ -12,20 +12,16 @@ use denote.MutBor.{MutBor}
 use Rattle.machine.specs.Record.{fits}
 use Rattle.dock.specs.Step.{step_of}
 use Rattle.dock.specs.Run.{after, answers_to}
-use Rattle.dock.specs.Answers.{byte_of, outputs_of}
+use Rattle.dock.specs.Answers.{byte_of, outputs_of, Answer, done_with}
 use Rattle.dock.specs.Held.{held_value, held_fit}
 use Rattle.dock.specs.declared.Controller.{Controller}
-use Rattle.dock.specs.declared.Answer.{Answer}
-use Rattle.dock.specs.declared.Answer.TheVariants as answer
 use Rattle.bus.specs.declared.Reply.TheVariants.{Driven}
 use Rattle.dock.proofs.Widths.{byte_wide, outputs_wide}
 use Rattle.dock.proofs.Run.{after_append, answers_append, answers_length}
 use Rattle.batch.specs.Record.{record_number, record_of, records_of}
 use Rattle.batch.specs.Batch.{outcome_of, state_by, batch_of, buffer_after}
-use Rattle.batch.specs.Outcome.{outcome_count}
+use Rattle.calls.specs.Numbers.{outcome_count}
 use Rattle.batch.specs.Decode.{number_of, answer_in, decode}
-use Rattle.batch.specs.declared.Outcome.{Outcome}
-use Rattle.batch.specs.declared.Outcome.TheVariants.{Done, Unfit}
 use Rattle.batch.specs.declared.Batched.{Batched}
 use Rattle.batch.proofs.Records.{record_length, records_length, records_append}
 use Rattle.batch.proofs.Accepted.{has_room}
@@ -33,8 +29,8 @@ use Rattle.batch.proofs.Decode.{decoded}
 use Rattle.batch.proofs.batch.Reads as batch_reads
 use Rattle.batch.proofs.record.Reads as record_reads
 use Rattle.batch.proofs.answer_in.Reads as answer_reads
-use Rattle.batch.proofs.Outcome.refusal.Reads as refusal_reads
-use Rattle.batch.proofs.Outcome.count.Reads as count_reads
+use Rattle.std.specs.Prelude.{Ok, Err}
+use Rattle.calls.specs.declared.Refusal.TheVariants.{Unfit}
 
 -- The i-th answer of a list of words is the single call's, in the state that the words before it leave.
 answers_split :
@@ -58,7 +54,7 @@ pub record Alone (s : Controller) (ws buffer : List ℕ) (r : Batched) (written 
   pub past : drop (4 * length ws) written ≡ drop (4 * length ws) buffer
 
 pub alone_or_batched :
-    (s : Controller) (ws buffer : List ℕ) (n : ℕ) → outcome_of s (length ws) (length buffer) ≡ Done n
+    (s : Controller) (ws buffer : List ℕ) (n : ℕ) → outcome_of s (length ws) (length buffer) ≡ Ok n
     → Alone s ws buffer (batch_of s ws (length buffer)) (buffer_after s ws buffer)
 unfolding batch_of buffer_after records_of
 alone_or_batched s ws buffer n e =
@@ -88,7 +84,7 @@ pub one_word : (s : Controller) (w : ℕ) → (batch_of s (w ∷ []) 4).controll
 unfolding batch_of outcome_of after step_of
 one_word s w = go (fits s.machine) refl
   where
-    go : (f : Bool) → fits s.machine ≡ f → state_by (cond f (Done 1) Unfit) s (w ∷ []) ≡ (step_of s w).controller
+    go : (f : Bool) → fits s.machine ≡ f → state_by (cond f (Ok 1) (Err Unfit)) s (w ∷ []) ≡ (step_of s w).controller
     go true e = refl
     go false e = rw e
 
@@ -116,12 +112,12 @@ unfolding decode
 call_decodes s w h = decoded (step_of s w).answer (byte_wide s w h) (outputs_wide s w)
 
 -- The paper's last record, of the answer 0, 3, 15h, 041h.
-pub last_record : record_of (answer.Done (Driven 0x15) 0x041) ≡ 0x06 ∷ 0x2A ∷ 0x41 ∷ 0x00 ∷ []
+pub last_record : record_of (done_with (Driven 0x15) 0x041) ≡ 0x06 ∷ 0x2A ∷ 0x41 ∷ 0x00 ∷ []
 unfolding record_of record_number
 last_record = refl
 
 -- The record of document 03's trace, of the answer 0, 3, 77h, 000h.
-pub second_kinds_record : record_of (answer.Done (Driven 0x77) 0x000) ≡ 0x06 ∷ 0xEE ∷ 0x00 ∷ 0x00 ∷ []
+pub second_kinds_record : record_of (done_with (Driven 0x77) 0x000) ≡ 0x06 ∷ 0xEE ∷ 0x00 ∷ 0x00 ∷ []
 unfolding record_of record_number
 second_kinds_record = refl
 
@@ -132,12 +128,6 @@ record_determined a r s p q = p ∙ sym q
 
 pub answer_determined : (n : ℕ) (r s : Answer) → answer_reads.Post tt (n, tt) r (n, tt) → answer_reads.Post tt (n, tt) s (n, tt) → r ≡ s
 answer_determined n r s p q = p ∙ sym q
-
-pub refusal_determined : (o : Outcome) (r s : ℕ) → refusal_reads.Post tt (o, tt) r (o, tt) → refusal_reads.Post tt (o, tt) s (o, tt) → r ≡ s
-refusal_determined o r s p q = p ∙ sym q
-
-pub count_determined : (o : Outcome) (r s : ℕ) → count_reads.Post tt (o, tt) r (o, tt) → count_reads.Post tt (o, tt) s (o, tt) → r ≡ s
-count_determined o r s p q = p ∙ sym q
 
 -- Of a batch also the buffer that it leaves.
 pub batch_determined :

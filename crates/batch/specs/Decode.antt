@@ -1,9 +1,9 @@
 -- A record read back: the four fields of its four bytes, and the answer that has them (document 01, "Replies and refusal numbers").
-use Rattle.std.specs.Prelude.{ℕ, ◌+◌, ◌*◌, ◌/◌, ◌%◌, ◌^◌, List, [], ◌∷◌, get_or}
+use Rattle.std.specs.Prelude.{ℕ, ◌+◌, ◌*◌, ◌/◌, ◌%◌, ◌^◌, List, [], ◌∷◌, get_or, Err}
 use Rattle.bus.specs.declared.Reply.{Reply}
 use Rattle.bus.specs.declared.Reply.TheVariants.{Nothing, Ack, NoAck, Driven, NotDriven}
-use Rattle.dock.specs.declared.Answer.{Answer}
-use Rattle.dock.specs.declared.Answer.TheVariants.{Done, Unfit, StrayBit, NotStarted}
+use Rattle.dock.specs.Answers.{Answer, done_with}
+use Rattle.dock.specs.declared.Refusal.TheVariants.{NotStarted, StrayBit, Unfit}
 
 -- Four bytes as one number, most significant first.
 abbrev pub number_of : List ℕ → ℕ
@@ -15,7 +15,7 @@ reply_by n byte = get_or (Nothing ∷ Ack ∷ NoAck ∷ Driven byte ∷ []) n No
 
 -- An answer by its refusal, reply and outputs.
 abbrev pub answer_by : ℕ → Reply → ℕ → Answer
-answer_by refusal reply outputs = get_or (Done reply outputs ∷ Unfit ∷ StrayBit outputs ∷ []) refusal NotStarted
+answer_by refusal reply outputs = get_or (done_with reply outputs ∷ Err Unfit ∷ Err (StrayBit outputs) ∷ []) refusal (Err NotStarted)
 
 -- The fields of a record's 32 bits, ..
 abbrev pub refusal_bits : ℕ → ℕ

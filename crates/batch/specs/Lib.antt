@@ -1,4 +1,3 @@
 pub mod Record
-pub mod Outcome
 pub mod Batch
 pub mod Decode

@@ -1,8 +1,7 @@
 -- The record of an answer (document 01, "Replies and refusal numbers"): four bytes, with refusal 4 bits, reply 3, byte 8, outputs 9,
 -- eight zero bits, most significant first.
 use Rattle.std.specs.Prelude.{ℕ, ◌+◌, ◌*◌, ◌/◌, ◌%◌, List, [], ◌∷◌, ◌++◌}
-use Rattle.dock.specs.Answers.{refusal_of, reply_of, byte_of, outputs_of}
-use Rattle.dock.specs.declared.Answer.{Answer}
+use Rattle.dock.specs.Answers.{refusal_of, reply_of, byte_of, outputs_of, Answer}
 
 -- The bytes of a record.
 abbrev pub RECORD : ℕ

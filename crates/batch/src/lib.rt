@@ -7,32 +7,20 @@ ghost use Rattle.dock.specs.Run.{after, answers_to};
 ghost use Rattle.batch.specs.Record.{fields, record_number, record_of, records_of};
 ghost use Rattle.batch.specs.Decode.{reply_by, answer_by, answer_in};
 ghost use Rattle.batch.specs.Batch.{batch_of, buffer_after, outcome_of};
-ghost use Rattle.batch.specs.Outcome.{outcome_refusal, outcome_count};
 
 use bus::Reply;
-use dock::{Answer, Controller};
+use calls::{Outcome, Refusal};
+use dock::{Answer, Controller, Done, Went};
 
 // The most words in one batch.
 pub const MOST_WORDS: usize = 16384;
 // The bytes of a record.
 pub const RECORD: usize = 4;
 
-// What a batch answers.
-#[derive(Clone, Copy)]
-pub enum Outcome {
-    // So many records were written.
-    Done(usize),
-    // The state isn't fit.
-    Unfit,
-    // Fewer than 4 answer bytes per word.
-    TooFewBytes,
-    // Over 16,384 words.
-    TooManyWords,
-}
-
 #[derive(Clone, Copy)]
 pub struct Batched {
     pub controller: Controller,
+    // So many records were written, or why none was.
     pub outcome: Outcome,
 }
 
@@ -50,10 +38,8 @@ fn record_number(answer: Answer) -> u32
     ensures { result ≡ record_number answer }
 {
     match answer {
-        Answer::Done(reply, outputs) => fields(0, reply.number(), reply.byte(), outputs),
-        Answer::Unfit => fields(1, 0, 0, 0),
-        Answer::StrayBit(outputs) => fields(2, 0, 0, outputs),
-        Answer::NotStarted => fields(3, 0, 0, 0),
+        Ok(Done { reply, outputs }) => fields(0, reply.number(), reply.byte(), outputs),
+        Err(refusal) => fields(refusal.number(), 0, 0, refusal.outputs()),
     }
 }
 
@@ -62,13 +48,7 @@ fn record_number(answer: Answer) -> u32
 pub fn record(answer: Answer) -> [u8; 4]
     ensures { result ≡ record_of answer }
 {
-    let n = record_number(answer);
-    [
-        (n / 16777216 % 256) as u8,
-        (n / 65536 % 256) as u8,
-        (n / 256 % 256) as u8,
-        (n % 256) as u8,
-    ]
+    record_number(answer).to_be_bytes()
 }
 
 // A reply by its number and byte: any past 3 is that of a TAKE that isn't driven.
@@ -91,10 +71,10 @@ fn answer_by(refusal: u8, reply: Reply, outputs: u16) -> Answer
     ensures { result ≡ answer_by refusal reply outputs }
 {
     match refusal {
-        0 => Answer::Done(reply, outputs),
-        1 => Answer::Unfit,
-        2 => Answer::StrayBit(outputs),
-        _ => Answer::NotStarted,
+        0 => Ok(Done { reply, outputs }),
+        1 => Err(dock::Refusal::Unfit),
+        2 => Err(dock::Refusal::StrayBit(outputs)),
+        _ => Err(dock::Refusal::NotStarted),
     }
 }
 
@@ -116,11 +96,7 @@ fn write_record(answer: Answer, place: &mut [u8])
     requires { length place.old ≡ 4 }
     ensures { place.new ≡ record_of answer }
 {
-    let bytes = record(answer);
-    place[0] = bytes[0];
-    place[1] = bytes[1];
-    place[2] = bytes[2];
-    place[3] = bytes[3];
+    place.copy_from_slice(&record(answer));
 }
 
 // Refusals 1, 5 and 4, in that order.
@@ -129,15 +105,15 @@ fn verdict(controller: Controller, words: &[u16], records: &[u8]) -> Outcome
     ensures { result ≡ outcome_of controller (length words.now) (length records.now) }
 {
     if !controller.fit() {
-        return Outcome::Unfit;
+        return Err(Refusal::Unfit);
     }
     if MOST_WORDS < words.len() {
-        return Outcome::TooManyWords;
+        return Err(Refusal::TooMany);
     }
     if records.len() < RECORD * words.len() {
-        return Outcome::TooFewBytes;
+        return Err(Refusal::TooFewPlaces);
     }
-    Outcome::Done(words.len())
+    Ok(words.len())
 }
 
 // The words one after the other, each with its record at its own place. Each leaves the state fit, so it isn't asked again.
@@ -150,61 +126,35 @@ fn run(controller: Controller, words: &[u16], records: &mut [u8]) -> Controller
 {
     let mut state = controller;
     let mut shown = controller.machine.outputs();
-    let mut i = 0;
-    while i < words.len() {
-        let went = state.goes(shown, words[i]);
-        let answer = went.answer;
+    for (i, word) in words.iter().enumerate() {
+        let Went {
+            controller,
+            answer,
+            outputs,
+        } = state.goes(shown, *word);
         let at = RECORD * i;
         write_record(answer, &mut records[at..at + RECORD]);
-        state = went.controller;
-        shown = went.outputs;
-        i += 1;
+        state = controller;
+        shown = outputs;
     }
     state
 }
 
 // The batch call. A word refused with 2 or 3 gets its record and the batch goes on.
-#[tactic(auto, using(bus::proofs::Cases::found, crate::proofs::Accepted::has_room, crate::proofs::Accepted::as_it_came), unfolding(crate::specs::Batch::batch_of, crate::specs::Batch::buffer_after))]
+#[tactic(auto, using(crate::proofs::Accepted::has_room, crate::proofs::Accepted::as_it_came), unfolding(crate::specs::Batch::batch_of, crate::specs::Batch::buffer_after))]
 pub fn batch(controller: Controller, words: &[u16], records: &mut [u8]) -> Batched
     ensures value { result ≡ batch_of controller words.now (length records.old) }
     ensures records_after { records.new ≡ buffer_after controller words.now records.old }
 {
-    let answer = verdict(controller, words, &*records);
-    let Outcome::Done(_) = answer else {
+    let outcome = verdict(controller, words, &*records);
+    let Ok(_) = outcome else {
         return Batched {
             controller,
-            outcome: answer,
+            outcome,
         };
     };
-    let next = run(controller, words, records);
     Batched {
-        controller: next,
-        outcome: answer,
-    }
-}
-
-impl Outcome {
-    // The paper's number for the answer.
-    pub fn refusal(self) -> u8
-        ensures { result ≡ outcome_refusal self }
-    {
-        match self {
-            Outcome::Done(_) => 0,
-            Outcome::Unfit => 1,
-            Outcome::TooFewBytes => 4,
-            Outcome::TooManyWords => 5,
-        }
-    }
-
-    // The number of records written.
-    pub fn count(self) -> usize
-        ensures { result ≡ outcome_count self }
-    {
-        match self {
-            Outcome::Done(count) => count,
-            Outcome::Unfit => 0,
-            Outcome::TooFewBytes => 0,
-            Outcome::TooManyWords => 0,
-        }
+        controller: run(controller, words, records),
+        outcome,
     }
 }

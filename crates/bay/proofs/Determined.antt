@@ -22,7 +22,7 @@ use Rattle.bay.proofs.Bay.bcer.Reads as bcer_reads
 use Rattle.bay.proofs.Bay.with_bstr.Reads as with_bstr_reads
 use Rattle.bay.proofs.Bay.controlled.Reads as controlled_reads
 use Rattle.bay.proofs.Bay.unlocked.Reads as unlocked_reads
-use Rattle.bay.proofs.Control.of.Reads as control_of_reads
+use Rattle.bay.proofs.registers.ControlFromU8.from.Reads as control_of_reads
 use Rattle.bay.proofs.Bay.outputs.Reads as outputs_reads
 use Rattle.bay.proofs.Bay.interrupt.Reads as interrupt_reads
 use Rattle.bay.proofs.debounce.debounced.Reads as debounced_reads

@@ -58,27 +58,22 @@ impl Bay {
     pub fn sampled(self, levels: u8) -> Bay
         ensures { result ≡ sampled_bay levels self }
     {
-        let accepted = self.accepted;
-        let counts = self.counts;
-        let control = self.control;
         let n1394 = has(levels, 8);
         let nusb = has(levels, 4);
         let nremreq = has(levels, 2);
         Bay {
             levels: [n1394, nusb, nremreq],
             counts: [
-                restarted(n1394, accepted[Bay::N1394], counts[Bay::N1394]),
-                restarted(nusb, accepted[Bay::NUSB], counts[Bay::NUSB]),
-                restarted(nremreq, accepted[Bay::NREMREQ], counts[Bay::NREMREQ]),
+                restarted(n1394, self.accepted[Bay::N1394], self.counts[Bay::N1394]),
+                restarted(nusb, self.accepted[Bay::NUSB], self.counts[Bay::NUSB]),
+                restarted(
+                    nremreq,
+                    self.accepted[Bay::NREMREQ],
+                    self.counts[Bay::NREMREQ],
+                ),
             ],
-            accepted,
-            remreq_sts: self.remreq_sts,
-            devstschg: self.devstschg,
-            state: self.state,
-            control,
-            pulse: self.pulse,
-            wait: self.wait,
             n_sl: has(levels, 1),
+            ..self
         }
     }
 }

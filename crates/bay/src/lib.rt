@@ -12,7 +12,7 @@ mod registers;
 
 // In each array the places are n1394, nUSB and nREMREQ; a level of false is 0, asserted. The order of the fields is one in
 // which the compiler copies them one by one (docs/DECISIONS.md).
-#[derive(Clone, Copy)]
+#[derive(Clone, Copy, PartialEq, Eq)]
 pub struct Bay {
     // As last sampled.
     pub levels: [bool; Bay::INPUTS],
@@ -59,7 +59,7 @@ impl Bay {
 }
 
 // BCER's six fields: of a bay, or as a driver writes them.
-#[derive(Clone, Copy)]
+#[derive(Clone, Copy, PartialEq, Eq)]
 pub struct Control {
     pub lock_ctl: bool,
     // Stored, 0-4, where 1-4 are bay states; written, 0-7.
@@ -71,7 +71,7 @@ pub struct Control {
 }
 
 // What the registers that the bays share, the straps and the kind of the controller make of a bay's rules.
-#[derive(Clone, Copy)]
+#[derive(Clone, Copy, PartialEq, Eq)]
 pub struct Setting {
     // The lock pin gives a pulse, high or low, of so many ticks as LOCK_CTL falls; else it is LOCK_CTL.
     pub pulsed: bool,
@@ -82,7 +82,7 @@ pub struct Setting {
 }
 
 // One input after a TICK.
-#[derive(Clone, Copy)]
+#[derive(Clone, Copy, PartialEq, Eq)]
 pub struct Input {
     pub accepted: bool,
     pub count: u8,
@@ -91,7 +91,7 @@ pub struct Input {
 }
 
 // A bay's inputs after a TICK.
-#[derive(Clone, Copy)]
+#[derive(Clone, Copy, PartialEq, Eq)]
 pub struct Inputs {
     pub n1394: Input,
     pub nusb: Input,

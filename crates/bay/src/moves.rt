@@ -1,12 +1,12 @@
 // What a TICK makes of a bay (document 01, "Bay moves"; document 03, "Bay moves"): the wait goes on, and then at most one
 // move, presence first.
-ghost use Rattle.std.specs.Prelude.{◌≡◌, Bool, true, false, ◌-◌};
-ghost use Rattle.bay.specs.Record.{contact as record_contact, hidden, shown, present as record_present};
-ghost use Rattle.bay.specs.Moves.{inputs_of, leaves, changes, moved_bay, moved_to, ticked_bay, rests, begins, begun, wait_after, inserts, at_once, state_after, control_after, in_use};
+ghost use Rattle.std.specs.Prelude.{◌≡◌, ◌<◌, Bool, true, false, ◌-◌};
+ghost use Rattle.bay.specs.Record.{INPUTS, contact as record_contact, hidden, shown, present as record_present};
+ghost use Rattle.bay.specs.Moves.{input, inputs_of, leaves, changes, moved_bay, moved_to, ticked_bay, rests, begins, begun, wait_after, inserts, at_once, state_after, control_after, in_use};
 ghost use Rattle.bay.specs.declared.Setting.{Setting};
 
 use crate::debounce::{debounced, ticks_for};
-use crate::{Bay, Control, Inputs};
+use crate::{Bay, Control, Input, Inputs};
 
 // A device that seats is hidden, where a wait does that.
 pub(crate) fn hidden(hides: bool, wait: u16) -> bool
@@ -35,8 +35,7 @@ impl Bay {
     fn contact(self) -> bool
         ensures { result ≡ record_contact self }
     {
-        let accepted = self.accepted;
-        !accepted[Bay::N1394] | !accepted[Bay::NUSB]
+        !self.accepted[Bay::N1394] | !self.accepted[Bay::NUSB]
     }
 
     // A device is in the bay, and not hidden.
@@ -115,39 +114,33 @@ impl Bay {
     fn changes(self, hides: bool, wait: u16, inputs: Inputs) -> bool
         ensures { result ≡ changes hides self wait inputs.n1394 inputs.nusb }
     {
-        let accepted = self.accepted;
-        !(shown(hides, self.wait, accepted[Bay::N1394])
-            == shown(hides, wait, inputs.n1394.accepted))
-            | !(shown(hides, self.wait, accepted[Bay::NUSB])
-                == shown(hides, wait, inputs.nusb.accepted))
+        (shown(hides, self.wait, self.accepted[Bay::N1394])
+            != shown(hides, wait, inputs.n1394.accepted))
+            | (shown(hides, self.wait, self.accepted[Bay::NUSB])
+                != shown(hides, wait, inputs.nusb.accepted))
+    }
+
+    // One input after a TICK.
+    fn input(self, i: usize) -> Input
+        requires { i < INPUTS }
+        ensures { result ≡ input self i }
+    {
+        debounced(
+            ticks_for(i),
+            self.levels[i],
+            self.accepted[i],
+            self.counts[i],
+        )
     }
 
     // The inputs after a TICK.
     pub fn inputs(self) -> Inputs
         ensures { result ≡ inputs_of self }
     {
-        let levels = self.levels;
-        let accepted = self.accepted;
-        let counts = self.counts;
         Inputs {
-            n1394: debounced(
-                ticks_for(Bay::N1394),
-                levels[Bay::N1394],
-                accepted[Bay::N1394],
-                counts[Bay::N1394],
-            ),
-            nusb: debounced(
-                ticks_for(Bay::NUSB),
-                levels[Bay::NUSB],
-                accepted[Bay::NUSB],
-                counts[Bay::NUSB],
-            ),
-            nremreq: debounced(
-                ticks_for(Bay::NREMREQ),
-                levels[Bay::NREMREQ],
-                accepted[Bay::NREMREQ],
-                counts[Bay::NREMREQ],
-            ),
+            n1394: self.input(Bay::N1394),
+            nusb: self.input(Bay::NUSB),
+            nremreq: self.input(Bay::NREMREQ),
         }
     }
 
@@ -159,22 +152,21 @@ impl Bay {
         requires nusb_value { leaves hides self wait inputs.n1394 inputs.nusb ≡ true }
         ensures { result ≡ moved_to hides 0 self wait inputs.n1394 inputs.nusb inputs.nremreq }
     {
-        let n1394 = inputs.n1394;
-        let nusb = inputs.nusb;
-        let nremreq = inputs.nremreq;
-        let levels = self.levels;
+        let Inputs {
+            n1394,
+            nusb,
+            nremreq,
+        } = inputs;
         let quiet = (self.state == Bay::REMOVAL_ALLOWED) & !self.control.remevtwak_en;
         Bay {
-            levels,
             counts: [n1394.count, nusb.count, nremreq.count],
             accepted: [n1394.accepted, nusb.accepted, nremreq.accepted],
-            remreq_sts: self.remreq_sts,
             devstschg: self.devstschg | (change & !quiet),
             state: Bay::EMPTY,
             control: self.control.released(),
             pulse,
             wait,
-            n_sl: self.n_sl,
+            ..self
         }
     }
 
@@ -183,9 +175,11 @@ impl Bay {
     pub fn moved(self, hides: bool, ticks: u16, inputs: Inputs) -> Bay
         ensures { result ≡ moved_bay hides ticks self inputs.n1394 inputs.nusb inputs.nremreq }
     {
-        let n1394 = inputs.n1394;
-        let nusb = inputs.nusb;
-        let nremreq = inputs.nremreq;
+        let Inputs {
+            n1394,
+            nusb,
+            nremreq,
+        } = inputs;
         let now = !n1394.accepted | !nusb.accepted;
         let wait = self.wait_after(hides, ticks, now);
         let change = self.changes(hides, wait, inputs);
@@ -195,21 +189,17 @@ impl Bay {
         if before & !after {
             return self.left(hides, pulse, wait, change, inputs);
         }
-        let levels = self.levels;
-        let control = self.control;
         let arrives = !before & after;
         let heeded = nremreq.settled & !nremreq.accepted & after;
         Bay {
-            levels,
             counts: [n1394.count, nusb.count, nremreq.count],
             accepted: [n1394.accepted, nusb.accepted, nremreq.accepted],
             remreq_sts: self.remreq_sts | heeded,
             devstschg: self.devstschg | change,
             state: self.state_after(hides, ticks, arrives, heeded),
-            control,
             pulse,
             wait,
-            n_sl: self.n_sl,
+            ..self
         }
     }
 
@@ -219,11 +209,9 @@ impl Bay {
         ensures value { result ≡ rests self }
         ensures self_value { result ≡ true → (hides : Bool) (s : Setting) → ticked_bay hides s self ≡ self }
     {
-        let levels = self.levels;
-        let accepted = self.accepted;
-        (levels[Bay::N1394] == accepted[Bay::N1394])
-            & (levels[Bay::NUSB] == accepted[Bay::NUSB])
-            & (levels[Bay::NREMREQ] == accepted[Bay::NREMREQ])
+        (self.levels[Bay::N1394] == self.accepted[Bay::N1394])
+            & (self.levels[Bay::NUSB] == self.accepted[Bay::NUSB])
+            & (self.levels[Bay::NREMREQ] == self.accepted[Bay::NREMREQ])
             & (self.wait == 0)
             & (self.pulse == 0)
     }

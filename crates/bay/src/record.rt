@@ -1,8 +1,7 @@
 // The records that a closing and a RESET make, and whether a record is fit.
 ghost use Rattle.std.specs.Prelude.{◌≡◌};
-ghost use Rattle.bay.specs.Record.{INPUTS, count_fits, each_below, locked_control, empty_bay, reset_bay, bay_fit};
+ghost use Rattle.bay.specs.Record.{locked_control, empty_bay, reset_bay, bay_fit};
 
-use crate::debounce::ticks_for;
 use crate::{Bay, Control};
 use bits::has;
 
@@ -43,7 +42,7 @@ impl Bay {
     }
 
     // RESET, with the bay's four levels, nSL lowest, and what LOCK_CTL starts as.
-    #[tactic(auto, unfolding(crate::specs::Record::reset_bay))]
+    #[tactic(auto, unfolding(crate::specs::Record::reset_bay, crate::specs::Record::empty_bay))]
     pub fn reset(levels: u8, lock_ctl: bool) -> Bay
         ensures { result ≡ reset_bay levels lock_ctl }
     {
@@ -53,14 +52,10 @@ impl Bay {
         Bay {
             levels: [n1394, nusb, nremreq],
             accepted: [n1394, nusb, nremreq],
-            counts: [0; Bay::INPUTS],
             n_sl: has(levels, 1),
-            state: Bay::EMPTY,
-            remreq_sts: false,
             devstschg: !n1394 | !nusb,
             control: Control::locked(lock_ctl),
-            pulse: 0,
-            wait: 0,
+            ..Bay::empty()
         }
     }
 
@@ -69,24 +64,12 @@ impl Bay {
     pub fn fit(self, most_pulse: u16, most_wait: u16) -> bool
         ensures { result ≡ bay_fit most_pulse most_wait self }
     {
-        let counts = self.counts;
-        counts_fit(counts)
+        (self.counts[Bay::N1394] < Bay::PRESENCE_TICKS)
+            & (self.counts[Bay::NUSB] < Bay::PRESENCE_TICKS)
+            & (self.counts[Bay::NREMREQ] < Bay::REMREQ_TICKS)
             & (self.state <= Bay::REMOVAL_ALLOWED)
             & (self.control.request <= Bay::REMOVAL_ALLOWED)
             & (self.pulse <= most_pulse)
             & (self.wait <= most_wait)
     }
-}
-
-// Whether each count is below the ticks that accept its level.
-fn counts_fit(counts: [u8; Bay::INPUTS]) -> bool
-    ensures { result ≡ each_below INPUTS (count_fits counts) }
-{
-    let mut fit = true;
-    let mut i = 0;
-    while i < Bay::INPUTS {
-        fit = fit & (counts[i] < ticks_for(i));
-        i += 1;
-    }
-    fit
 }

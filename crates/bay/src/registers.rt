@@ -12,13 +12,12 @@ impl Bay {
     pub fn bstr(self, hides: bool, secured: bool) -> u8
         ensures { result ≡ bstr_of hides secured self }
     {
-        let accepted = self.accepted;
         put(secured & !self.n_sl, 128)
             + self.state % 8 * 16
             + put(self.remreq_sts, 8)
             + put(self.devstschg, 4)
-            + put(shown(hides, self.wait, accepted[Bay::N1394]), 2)
-            + put(shown(hides, self.wait, accepted[Bay::NUSB]), 1)
+            + put(shown(hides, self.wait, self.accepted[Bay::N1394]), 2)
+            + put(shown(hides, self.wait, self.accepted[Bay::NUSB]), 1)
     }
 
     // BCER as it reads.
@@ -39,21 +38,10 @@ impl Bay {
     pub fn with_bstr(self, value: u8) -> Bay
         ensures { result ≡ bstr_written value self }
     {
-        let levels = self.levels;
-        let counts = self.counts;
-        let accepted = self.accepted;
-        let control = self.control;
         Bay {
-            levels,
-            counts,
-            accepted,
             remreq_sts: self.remreq_sts & !has(value, 8),
             devstschg: self.devstschg & !has(value, 4),
-            state: self.state,
-            control,
-            pulse: self.pulse,
-            wait: self.wait,
-            n_sl: self.n_sl,
+            ..self
         }
     }
 
@@ -62,20 +50,10 @@ impl Bay {
     pub fn unlocked(self) -> Bay
         ensures { result ≡ unlocked_bay self }
     {
-        let levels = self.levels;
-        let counts = self.counts;
-        let accepted = self.accepted;
         Bay {
-            levels,
-            counts,
-            accepted,
-            remreq_sts: self.remreq_sts,
-            devstschg: self.devstschg,
-            state: self.state,
             control: self.control.unlocked(),
             pulse: 0,
-            wait: self.wait,
-            n_sl: self.n_sl,
+            ..self
         }
     }
 
@@ -140,29 +118,21 @@ impl Bay {
     pub fn controlled(self, hides: bool, c: Control, setting: Setting) -> Bay
         ensures { result ≡ controlled_bay hides c setting self }
     {
-        let levels = self.levels;
-        let counts = self.counts;
-        let accepted = self.accepted;
         let present = self.present(hides);
         Bay {
-            levels,
-            counts,
-            accepted,
-            remreq_sts: self.remreq_sts,
-            devstschg: self.devstschg,
             state: self.state_written(hides, c, present, setting.wait_ticks),
             control: self.control.written(c, present),
             pulse: self.pulse_written(c, setting.pulsed, setting.pulse_ticks),
             wait: self.wait_written(hides, c, present, setting.wait_ticks),
-            n_sl: self.n_sl,
+            ..self
         }
     }
 }
 
-impl Control {
-    // What a byte written to BCER asks.
+// What a byte written to BCER asks.
+impl From<u8> for Control {
     #[tactic(auto, unfolding(crate::specs::Registers::control_of))]
-    pub fn of(value: u8) -> Control
+    fn from(value: u8) -> Control
         ensures { result ≡ control_of value }
     {
         Control {
@@ -174,7 +144,9 @@ impl Control {
             pwr_ctl: has(value, 1),
         }
     }
+}
 
+impl Control {
     // LOCK_CTL 0, PWR_CTL 0.
     fn unlocked(mut self) -> Control
         ensures { result ≡ control_unlocked self }
@@ -205,12 +177,9 @@ impl Control {
         ensures { result ≡ control_written c present self }
     {
         Control {
-            lock_ctl: c.lock_ctl,
             request: self.request_written(c),
-            remreq_en: c.remreq_en,
-            devstschg_en: c.devstschg_en,
-            remevtwak_en: c.remevtwak_en,
             pwr_ctl: c.pwr_ctl & c.lock_ctl & present,
+            ..c
         }
     }
 }

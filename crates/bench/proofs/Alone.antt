@@ -10,8 +10,6 @@ use mathlib.Core.List.{[], ◌∷◌}
 use Rattle.event.specs.Words.{unpacked}
 use Rattle.event.specs.declared.Event.{Event}
 use Rattle.event.specs.declared.Event.TheVariants.{Start, Stop, Byte, Take, Pins, Tick, Reset, Timeout}
-use Rattle.event.specs.declared.Unpacked.{Unpacked}
-use Rattle.event.specs.declared.Unpacked.TheVariants.{Accepted, StrayBit as NoEvent}
 use Rattle.bus.specs.Reply.{reply_number}
 use Rattle.bus.specs.declared.Reply.{Reply}
 use Rattle.bus.specs.declared.Reply.TheVariants.{Nothing, Ack, NoAck, Driven, NotDriven}
@@ -21,30 +19,27 @@ use Rattle.dock.specs.Shared.{standing_of}
 use Rattle.dock.specs.Step.{takes, refused, done_step, step_of}
 use Rattle.dock.specs.declared.Controller.{Controller}
 use Rattle.dock.specs.declared.Stepped.{Stepped}
-use Rattle.dock.specs.declared.Answer.{Answer as Single}
-use Rattle.dock.specs.declared.Answer.TheVariants as single
 use Rattle.dock.proofs.Replies.{replies}
 use Rattle.dock.proofs.Shown.{shown_after}
-use Rattle.chassis.specs.declared.Answer.{Answer}
-use Rattle.chassis.specs.declared.Answer.TheVariants.{Done, Refused as RefusedWith}
 use Rattle.chassis.specs.declared.Refusal.TheVariants.{Unfit, StrayBit, NotStarted}
-use Rattle.chassis.specs.declared.Verdict.{Verdict}
-use Rattle.chassis.specs.declared.Verdict.TheVariants.{Sent, Refused}
 use Rattle.chassis.specs.Judge.{faulty, by_event, by_word, judged, verdict_of}
 use Rattle.chassis.specs.Chassis.{goes_to, record_at, reply_at, records_from, replies_from, unanswered, heard, four, records_by, told_by, records_of, told_of}
+use Rattle.std.specs.Prelude.{Result, Ok, Err}
+use Rattle.event.specs.declared.NoEvent.{NoEvent}
+use Rattle.dock.specs.Answers.{Answer as Single}
+use Rattle.dock.specs.declared.Refusal.TheVariants as single
+use Rattle.chassis.specs.declared.Refusal.{Refusal}
 
 -- The single call's answer as the chassis gives it: with the same refusal, reply and byte, and these outputs.
-abbrev pub as_answered : Single → Answer
-as_answered (single.Done r o) = Done r
-as_answered single.Unfit = RefusedWith Unfit
-as_answered (single.StrayBit o) = RefusedWith StrayBit
-as_answered single.NotStarted = RefusedWith NotStarted
+abbrev pub as_answered : Single → Result Reply Refusal
+as_answered (Ok d) = Ok d.reply
+as_answered (Err single.Unfit) = Err Unfit
+as_answered (Err (single.StrayBit o)) = Err StrayBit
+as_answered (Err single.NotStarted) = Err NotStarted
 
 abbrev pub as_shown : Single → ℕ
-as_shown (single.Done r o) = o
-as_shown single.Unfit = 0
-as_shown (single.StrayBit o) = 0
-as_shown single.NotStarted = 0
+as_shown (Ok d) = d.outputs
+as_shown (Err why) = 0
 
 -- ---- one reply is the reply
 
@@ -101,19 +96,19 @@ goes Timeout = refl
 
 -- ---- one standing is judged as the single call judges
 
-by_started : (v r : Verdict) (t : Bool) → cond (not (t || false)) r v ≡ cond (t || false) v r
+by_started : (v r : Result Event Refusal) (t : Bool) → cond (not (t || false)) r v ≡ cond (t || false) v r
 by_started v r true = refl
 by_started v r false = refl
 
-by_own : (v r : Verdict) (t : Bool) → cond (not t) r v ≡ cond (t || false) v r
+by_own : (v r : Result Event Refusal) (t : Bool) → cond (not t) r v ≡ cond (t || false) v r
 by_own v r true = refl
 by_own v r false = refl
 
-always : (v r : Verdict) (t : Bool) → v ≡ cond (t || true) v r
+always : (v r : Result Event Refusal) (t : Bool) → v ≡ cond (t || true) v r
 always v r true = refl
 always v r false = refl
 
-verdict : (c : Controller) (e : Event) → by_event 1 (standing_of c ∷ []) 0 e ≡ cond (takes c.machine.started e) (Sent e) (Refused NotStarted)
+verdict : (c : Controller) (e : Event) → by_event 1 (standing_of c ∷ []) 0 e ≡ cond (takes c.machine.started e) (Ok e) (Err NotStarted)
 unfolding standing_of takes
 verdict c Start = by_started _ _ c.machine.started
 verdict c Stop = by_started _ _ c.machine.started
@@ -128,33 +123,33 @@ verdict c Timeout = by_started _ _ c.machine.started
 
 module _ (c : Controller) (w : ℕ) where
   -- What the chassis does by a verdict is what the single call does.
-  pub record Agrees (v : Verdict) (r : Stepped) : Type 0 where
+  pub record Agrees (v : Result Event Refusal) (r : Stepped) : Type 0 where
     pub leaves : records_by v 0 w (c ∷ []) ≡ r.controller ∷ []
     pub answers : (told_by v 0 w (c ∷ [])).answer ≡ as_answered r.answer
     pub shows : (told_by v 0 w (c ∷ [])).outputs ≡ four (as_shown r.answer ∷ [])
 
-  sent : (e : Event) → step_of c w ≡ done_step c e → Agrees (Sent e) (done_step c e)
+  sent : (e : Event) → step_of c w ≡ done_step c e → Agrees (Ok e) (done_step c e)
   unfolding records_by told_by records_from replies_from record_at reply_at
   sent e step =
       record {
         leaves = rw (goes e, step);
-        answers = rw (goes e, step) (ap Done (said c e));
+        answers = rw (goes e, step) (ap Ok (said c e));
         shows = rw (goes e, ← shown_after c w, step);
       }
 
-  by_event_lem : (e : Event) → step_of c w ≡ cond (takes c.machine.started e) (done_step c e) (refused c single.NotStarted)
+  by_event_lem : (e : Event) → step_of c w ≡ cond (takes c.machine.started e) (done_step c e) (refused c (Err single.NotStarted))
       → Agrees (by_event 1 (standing_of c ∷ []) 0 e) (step_of c w)
   unfolding records_by told_by
   by_event_lem e step = rw (verdict c e) (go (takes c.machine.started e) refl)
     where
-      go : (t : Bool) → takes c.machine.started e ≡ t → Agrees (cond (takes c.machine.started e) (Sent e) (Refused NotStarted)) (step_of c w)
+      go : (t : Bool) → takes c.machine.started e ≡ t → Agrees (cond (takes c.machine.started e) (Ok e) (Err NotStarted)) (step_of c w)
       go true f = let s : step_of c w ≡ done_step c e = step ∙ rw f in rw (f, s) (sent e s)
-      go false f = let s : step_of c w ≡ refused c single.NotStarted = step ∙ rw f in rw (f, s) (record { leaves = refl; answers = refl; shows = refl })
+      go false f = let s : step_of c w ≡ refused c (Err single.NotStarted) = step ∙ rw f in rw (f, s) (record { leaves = refl; answers = refl; shows = refl })
 
-  by_word_lem : fits c.machine ≡ true → (u : Unpacked) → unpacked w ≡ u → Agrees (by_word 1 (standing_of c ∷ []) 0 u) (step_of c w)
+  by_word_lem : fits c.machine ≡ true → (u : Result Event NoEvent) → unpacked w ≡ u → Agrees (by_word 1 (standing_of c ∷ []) 0 u) (step_of c w)
   unfolding by_word step_of records_by told_by
-  by_word_lem f NoEvent e = rw (f, e) (record { leaves = refl; answers = refl; shows = refl })
-  by_word_lem f (Accepted x) e = by_event_lem x (rw (f, e))
+  by_word_lem f (Err why) e = rw (f, e) (record { leaves = refl; answers = refl; shows = refl })
+  by_word_lem f (Ok x) e = by_event_lem x (rw (f, e))
 
   goes_on : (standing_of c).fit ≡ true → verdict_of (c ∷ []) 0 w ≡ by_word 1 (standing_of c ∷ []) 0 (unpacked w)
   unfolding judged faulty

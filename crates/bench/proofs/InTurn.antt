@@ -4,6 +4,7 @@ use native.Mathlib.Numerals.{add-one}
 use mathlib.Core.Path.{◌≡◌, refl, ap}
 use mathlib.Core.List.{List, [], ◌∷◌, ◌++◌, map}
 use lib.ListN.{replicate}
+use Rattle.std.specs.Option.{unwrap_or}
 use Rattle.script.specs.Arguments.{further_of, further_values}
 use Rattle.bench.specs.Orders.{byte_word, sent_of, after_words}
 use Rattle.bench.specs.declared.Bench.{Bench}
@@ -29,8 +30,8 @@ each (u ∷ vs) v = ap (λ ws. byte_word u ∷ ws) (each vs v)
 
 pub value_more :
     (t : List ℕ) (n : ℕ) (b : Bench)
-    → after_words b (map byte_word (further_values t (n + 1))) ≡ (sent_of (after_words b (map byte_word (further_values t n))) (byte_word (further_of t n).value)).bench
+    → after_words b (map byte_word (further_values t (n + 1))) ≡ (sent_of (after_words b (map byte_word (further_values t n))) (byte_word (unwrap_or (further_of t n) 0))).bench
 unfolding further_values after_words
 value_more t n b =
-    rw (add-one, each (further_values t n) (further_of t n).value)
-    (one_after_the_other (map byte_word (further_values t n)) (byte_word (further_of t n).value ∷ []) b)
+    rw (add-one, each (further_values t n) (unwrap_or (further_of t n) 0))
+    (one_after_the_other (map byte_word (further_values t n)) (byte_word (unwrap_or (further_of t n) 0) ∷ []) b)

@@ -9,22 +9,19 @@ use lib.Dec.{eqb, ltb}
 use lib.ListN.{length, get_or}
 use lib.Seq.{get_or-set_other}
 use borrow.Author.Tests.{ne_eqb}
-use Rattle.script.specs.Text.{characters, blank, leading, trimmed, first, rest, spelled, spelled64, index_of}
-use Rattle.script.specs.Verbs.{name, verbs, verb_of}
-use Rattle.script.specs.Arguments.{digit_of, is_octet, octet_of, word_of as word_in, pair_of, count_from, count_of, ticks_of, is_small, small_of, further_of, follows_at, all_further, further_values}
-use Rattle.script.specs.Hands.{only, bay_of, kind_of, pulls, raises, insert_line, hand_line}
-use Rattle.script.specs.Lines.{given, reset_line, take_line, write_line, span, read_line, chassis_line, order_line, verb_line, plain, argument_of, text_line, line_of}
+use Rattle.script.specs.Text.{characters, blank, trimmed, first, rest, only}
+use Rattle.script.specs.Verbs.{verbs, verb_of}
+use Rattle.script.specs.Arguments.{digit_of, octet_of, word_of as word_in, pair_of, count_from, count_of, ticks_of, small_of, further_of, follows_at, all_further, further_values}
+use Rattle.script.specs.Hands.{bay_of, only_bay, kind_of, insert_line, hand_line}
+use Rattle.script.specs.Lines.{Line, reset_line, take_line, write_line, span, read_line, chassis_line, order_line, verb_line, plain, argument_of, text_line, line_of}
 use Rattle.script.specs.declared.Order.{Order}
-use Rattle.script.specs.declared.Line.{Line}
-use Rattle.script.specs.declared.Line.TheVariants.{Blank, Unknown, Misused, Mishandled, Does}
+use Rattle.std.proofs.Common.{Some, None, Result, Ok, Err}
+use Rattle.std.specs.Result.{is_ok}
 use Rattle.script.specs.declared.Order.TheVariants.{Event as One, Ticks, Write, Address, Load, Name, Choose}
 use Rattle.script.proofs.OneWord.{load_argument, load_line}
 use Rattle.event.specs.Words.{unpacked, word_of, straps_of, packed, Bytes}
 use Rattle.event.specs.declared.Event.{Event}
 use Rattle.event.specs.declared.Event.TheVariants.{Pins, Reset}
-use Rattle.event.specs.declared.Packed.TheVariants.{Word}
-use Rattle.event.specs.declared.Unpacked.{Unpacked}
-use Rattle.event.specs.declared.Unpacked.TheVariants.{Accepted, StrayBit}
 use Rattle.event.proofs.Theorems.{pack_then_unpack}
 use Rattle.second.specs.Record.{fits as second_fits}
 use Rattle.bay.specs.Record.{empty_bay, reset_bay, bay_fit}
@@ -40,9 +37,11 @@ use Rattle.image.specs.Load.{first_over, progress_verdict, sized_verdict, verdic
 use Rattle.image.specs.Save.{saved}
 use Rattle.image.specs.Shape.{Shaped}
 use Rattle.image.proofs.RoundTrip.{saved_length}
-use Rattle.paste.specs.Digits.{hex_of, leading_digits, bytes_of}
-use Rattle.paste.specs.Ranges.{lasts, first_out, out_of}
-use Rattle.paste.specs.Findings.{is_fit, finding_of, judged, unread, pasted_of}
+use Rattle.paste.specs.Digits.{hex_of, bytes_of}
+use Rattle.paste.specs.Ranges.{longest, out_of}
+use Rattle.paste.specs.Findings.{finding_of, judged, unread, pasted_of}
+use Rattle.paste.specs.declared.Pasted.{Pasted}
+use Rattle.paste.specs.declared.Refused.{Refused}
 use Rattle.paste.proofs.Theorems.{Octets, two_each, one_word, state_back}
 use Rattle.chassis.specs.Judge.{MOST}
 use Rattle.chassis.specs.Numbers.{answer_refusal}
@@ -51,9 +50,11 @@ use Rattle.chassis.specs.declared.Chassis.{Chassis}
 use Rattle.bench.proofs.Alone.{as_answered, alone_leaves, alone_answers}
 use Rattle.bench.specs.Docks.{AT_REST, record_at, with_record, levels_at, with_levels}
 use Rattle.bench.specs.Levels.{pulled, raised, given_by, given_in, levels_after, bay_levels, levels_in}
-use Rattle.bench.specs.Orders.{words_of, fresh_docks, fresh_bench, sent_of, after_words, sending, is_there, becomes, named_as, loaded_by, obeyed, does, heeded}
+use Rattle.bench.specs.Orders.{words_of, fresh_docks, fresh_bench, sent_of, after_words, sending, is_there, becomes, named_as, taken_up, loaded_by, obeyed, does, heeded, left, after_line}
 use Rattle.bench.specs.Examples.{Example, words_typed, typed_words, examples, trace_lines, trace_words, Loading, loaded_words, loadings}
 use Rattle.bench.specs.declared.Bench.{Bench}
+use Rattle.std.specs.Prelude.{Result, Ok, Err}
+use Rattle.event.specs.declared.NoEvent.{NoEvent}
 
 -- What is typed as the paper writes it sends the words of the paper's examples P1 to P12, whatever the levels are.
 pub record AsInThePaper : Type 0 where
@@ -70,12 +71,12 @@ as_in_the_paper = record { RTyped = λ l t. refl; NTyped = λ l t. refl; P12Type
 
 -- Each of the examples sends the words written there.
 pub examples_hold : map typed_words examples ≡ map (λ (e : Example). e.words) examples
-unfolding examples unpacked words_of pulled raised packed word_of straps_of index_of line_of argument_of plain text_line verb_line order_line hand_line insert_line pulls raises only bay_of kind_of given reset_line take_line write_line span read_line chassis_line further_of follows_at all_further further_values octet_of is_octet digit_of word_in pair_of ticks_of is_small small_of count_of count_from verb_of verbs name spelled spelled64 trimmed first rest leading blank
+unfolding examples unpacked words_of pulled raised packed word_of straps_of line_of argument_of plain text_line verb_line order_line hand_line insert_line only bay_of only_bay kind_of reset_line take_line write_line span read_line chassis_line further_of follows_at all_further further_values octet_of digit_of word_in pair_of ticks_of small_of count_of count_from verb_of verbs trimmed first rest blank
 examples_hold = refl
 
 -- Document 03's trace is typed in four lines.
 pub trace_typed : flatten (map (words_typed 0xFF) trace_lines) ≡ trace_words
-unfolding trace_lines trace_words flatten unpacked words_of packed word_of straps_of index_of line_of argument_of plain text_line verb_line order_line given reset_line take_line write_line span read_line chassis_line further_of follows_at all_further further_values octet_of is_octet digit_of word_in pair_of verb_of verbs name spelled spelled64 trimmed first rest leading blank
+unfolding trace_lines trace_words flatten unpacked words_of packed word_of straps_of line_of argument_of plain text_line verb_line order_line only reset_line take_line write_line span read_line chassis_line further_of follows_at all_further further_values octet_of digit_of word_in pair_of verb_of verbs trimmed first rest blank
 trace_typed = refl
 
 -- After `at 96` a whole write begins with that byte.
@@ -142,7 +143,7 @@ unfolding obeyed named_as loaded_by
 absent_kept n t b absent = (rw absent, rw absent)
 
 -- The levels are those of the last PINS or RESET that was not refused: an event gives its own, to the dock that is chosen ..
-pub levels_given : (e : Event) → Bytes e → (v : ℕ) → packed e ≡ Word v → (b : Bench) → answer_refusal (sent_of b v).answer ≡ 0
+pub levels_given : (e : Event) → Bytes e → (v : ℕ) → packed e ≡ Ok v → (b : Bench) → answer_refusal (sent_of b v).answer ≡ 0
     → (sent_of b v).bench.levels ≡ with_levels b.dock (given_by e (levels_at b.dock b.levels)) b.levels
 unfolding sent_of levels_after
 levels_given e fine v p b done = rw (done, pack_then_unpack e fine v p)
@@ -164,23 +165,21 @@ unfolding sent_of levels_after
 levels_elsewhere v b k other =
     pick (λ (ls : List ℕ). levels_at k ls ≡ levels_at k b.levels) (eqb (answer_refusal (sent_of b v).answer) 0) (λ _. by_word_lem (unpacked v)) (λ _. refl)
   where
-    by_word_lem : (u : Unpacked) → levels_at k (given_in u b.dock b.levels) ≡ levels_at k b.levels
-    by_word_lem (Accepted e) = given_elsewhere b.dock k (given_by e (levels_at b.dock b.levels)) b.levels other
-    by_word_lem StrayBit = refl
+    by_word_lem : (u : Result Event NoEvent) → levels_at k (given_in u b.dock b.levels) ≡ levels_at k b.levels
+    by_word_lem (Ok e) = given_elsewhere b.dock k (given_by e (levels_at b.dock b.levels)) b.levels other
+    by_word_lem (Err why) = refl
 
 -- ---- lines
 
 -- A line that is no order, as one that isn't understood, changes nothing: not the dock, not the address and not the levels.
-pub nothing_done : (l : List ℕ) (b : Bench) → ((o : Order) → line_of l ≡ Does o → ⊥) → (heeded l b).bench ≡ b
+pub nothing_done : (l : List ℕ) (b : Bench) → ((o : Order) → line_of l ≡ Ok (Some o) → ⊥) → after_line l b ≡ b
 unfolding heeded
 nothing_done l b no-order = go (line_of l) refl
   where
-    go : (m : Line) → line_of l ≡ m → does m (argument_of l) b ≡ b
-    go Blank e = refl
-    go Unknown e = refl
-    go (Misused v) e = refl
-    go (Mishandled h) e = refl
-    go (Does o) e = absurd (no-order o e)
+    go : (m : Line) → line_of l ≡ m → left (does m (argument_of l) b) b ≡ b
+    go (Ok None) e = refl
+    go (Ok (Some o)) e = absurd (no-order o e)
+    go (Err m) e = refl
 
 -- ---- images
 
@@ -188,8 +187,8 @@ nothing_done l b no-order = go (line_of l) refl
 -- stored; the host speaks to the address that it spoke to.
 pub loads_back :
     (s : Controller) → Shaped s.machine → Octets (saved s) → fits s.machine ≡ true → (b : Bench) → is_there b ≡ true
-    → (heeded (characters "load " ++ hex_of (saved s)) b).bench ≡ becomes s (with_levels b.dock (levels_in s.machine) b.levels) b
-unfolding heeded obeyed loaded_by is_fit
+    → heeded (characters "load " ++ hex_of (saved s)) b ≡ Ok (becomes s (with_levels b.dock (levels_in s.machine) b.levels) b)
+unfolding heeded obeyed loaded_by
 loads_back s shaped octets fit b there =
     let digits : length (hex_of (saved s)) ≡ 2 * BYTES = omega (arith, two_each (saved s), saved_length s) in
     rw (
@@ -200,13 +199,17 @@ loads_back s shaped octets fit b there =
     )
 
 -- Any other text changes nothing.
-pub damage_kept : (t : List ℕ) (b : Bench) → is_fit (pasted_of t).finding ≡ false → obeyed Load t b ≡ b
+pub damage_kept : (t : List ℕ) (b : Bench) → is_ok (pasted_of t) ≡ false → obeyed Load t b ≡ b
 unfolding obeyed loaded_by
-damage_kept t b damaged = rw (damaged, either_way b (is_there b))
+damage_kept t b damaged = rw (untouched (pasted_of t) damaged, either_way b (is_there b))
+  where
+    untouched : (p : Result Pasted Refused) → is_ok p ≡ false → taken_up p b ≡ b
+    untouched (Ok p) e = cc
+    untouched (Err r) e = refl
 
 -- After a `load` the next line goes over the levels of the loaded state, or, after a damaged one, over those that were there.
 pub loadings_hold : map loaded_words loadings ≡ map (λ (e : Loading). e.words) loadings
-unfolding loadings heeded obeyed loaded_by is_there with_record with_levels levels_at fresh_docks is_fit pasted_of judged finding_of unread leading_digits bytes_of lasts first_out out_of load_of verdict_on sized_verdict progress_verdict first_over state_in fits second_fits bay_in bay_fit levels_in bay_levels fresh_bench fresh_controller fresh_machine empty_bay words_of pulled raised packed word_of straps_of index_of line_of argument_of plain text_line verb_line order_line hand_line insert_line pulls raises only bay_of kind_of given reset_line take_line write_line span read_line chassis_line further_of follows_at all_further further_values octet_of is_octet digit_of word_in pair_of ticks_of is_small small_of count_of count_from verb_of verbs name spelled spelled64 trimmed first rest leading blank
+unfolding loadings heeded obeyed loaded_by is_there with_record with_levels levels_at fresh_docks pasted_of judged finding_of unread bytes_of longest out_of load_of verdict_on sized_verdict progress_verdict first_over state_in fits second_fits bay_in bay_fit levels_in bay_levels fresh_bench fresh_controller fresh_machine empty_bay words_of pulled raised packed word_of straps_of line_of argument_of plain text_line verb_line order_line hand_line insert_line only bay_of only_bay kind_of reset_line take_line write_line span read_line chassis_line further_of follows_at all_further further_values octet_of digit_of word_in pair_of ticks_of small_of count_of count_from verb_of verbs trimmed first rest blank
 loadings_hold = refl
 
 -- The levels that a RESET gives are those that the dock then has stored: of a bay, all sixteen.

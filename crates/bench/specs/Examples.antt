@@ -1,12 +1,10 @@
 -- Lines as a person types them, at address 90h and over levels as they are, and the event words that they send.
-use Rattle.std.specs.Prelude.{ℕ, List, [], ◌∷◌, ◌++◌}
+use Rattle.std.specs.Prelude.{ℕ, List, [], ◌∷◌, ◌++◌, Some, None, Ok, Err}
 use Prim.Native.String.{String}
 use Rattle.script.specs.Text.{characters}
-use Rattle.script.specs.Lines.{argument_of, line_of}
-use Rattle.script.specs.declared.Line.{Line}
-use Rattle.script.specs.declared.Line.TheVariants.{Blank, Unknown, Misused, Mishandled, Does}
+use Rattle.script.specs.Lines.{Line, argument_of, line_of}
 use Rattle.bench.specs.Docks.{levels_at}
-use Rattle.bench.specs.Orders.{words_of, fresh_bench, heeded}
+use Rattle.bench.specs.Orders.{words_of, fresh_bench, after_line}
 use Rattle.bench.specs.declared.Bench.{Bench}
 
 pub record Example : Type 0 where
@@ -18,11 +16,9 @@ abbrev from : ℕ → String → List ℕ → Example
 from l t ws = record { levels = l; typed = t; words = ws }
 
 abbrev line_words : ℕ → List ℕ → Line → List ℕ
-line_words l t Blank = []
-line_words l t Unknown = []
-line_words l t (Misused v) = []
-line_words l t (Mishandled h) = []
-line_words l t (Does o) = words_of 0x90 l o t
+line_words l t (Ok (Some o)) = words_of 0x90 l o t
+line_words l t (Ok None) = []
+line_words l t (Err m) = []
 
 -- The words of a line, over levels.
 abbrev pub words_typed : ℕ → String → List ℕ
@@ -120,7 +116,7 @@ abbrev pub words_on : Bench → String → List ℕ
 words_on b typed = words_typed (levels_at b.dock b.levels) typed
 
 abbrev pub loaded_words : Loading → List ℕ
-loaded_words e = words_on (heeded (characters e.before) fresh_bench).bench e.typed
+loaded_words e = words_on (after_line (characters e.before) fresh_bench) e.typed
 
 abbrev loading : String → String → ℕ → Loading
 loading b t w = record { before = b; typed = t; words = w ∷ [] }

@@ -1,5 +1,5 @@
 -- What a line does to the docks on the bench: the event words that it sends, one after the other.
-use Rattle.std.specs.Prelude.{ℕ, ◌+◌, ◌*◌, ◌/◌, Bool, true, false, cond, List, [], ◌∷◌, ◌++◌, map, ltb, replicate}
+use Rattle.std.specs.Prelude.{ℕ, ◌+◌, ◌*◌, ◌/◌, Bool, true, false, cond, List, [], ◌∷◌, ◌++◌, map, ltb, replicate, Some, None, Result, Ok, Err}
 use Rattle.event.specs.Words.{packed, pack_word, unpacked}
 use Rattle.event.specs.declared.Event.{Event}
 use Rattle.event.specs.declared.Event.TheVariants.{Start, Stop, Byte, Take, Pins, Tick}
@@ -8,19 +8,18 @@ use Rattle.dock.specs.Name.{name_of}
 use Rattle.dock.specs.declared.Controller.{Controller}
 use Rattle.chassis.specs.Judge.{MOST}
 use Rattle.chassis.specs.Held.{stepped_of}
-use Rattle.paste.specs.Findings.{is_fit, pasted_of}
+use Rattle.paste.specs.Findings.{pasted_of}
 use Rattle.paste.specs.declared.Pasted.{Pasted}
+use Rattle.paste.specs.declared.Refused.{Refused}
 use Rattle.script.specs.Arguments.{further_values}
-use Rattle.script.specs.Lines.{argument_of, line_of}
+use Rattle.script.specs.Lines.{Line, argument_of, line_of}
 use Rattle.script.specs.declared.Order.{Order}
 use Rattle.script.specs.declared.Order.TheVariants.{Event as One, Pull, Raise, Ticks, Word, Write, Read, Address, Outputs, Registers, Help, Save, Load, Name, Docks, Choose}
-use Rattle.script.specs.declared.Line.{Line}
-use Rattle.script.specs.declared.Line.TheVariants.{Blank, Unknown, Misused, Mishandled, Does}
+use Rattle.script.specs.declared.Mistake.{Mistake}
 use Rattle.bench.specs.Docks.{AT_REST, record_at, with_record, levels_at, with_levels}
 use Rattle.bench.specs.Levels.{pulled, raised, levels_after, levels_in}
 use Rattle.bench.specs.declared.Bench.{Bench}
 use Rattle.bench.specs.declared.Sent.{Sent}
-use Rattle.bench.specs.declared.Heeded.{Heeded}
 
 abbrev pub word_for : Event → ℕ
 word_for e = pack_word (packed e)
@@ -110,11 +109,15 @@ named_as n b = cond (is_there b) (becomes (name_of (record_at b.dock b.chassis) 
 
 -- The image of a fit state: the chosen dock goes on from it, with the levels that it has stored; what the host speaks to stays. Any
 -- other text changes nothing, nor does any for a dock that isn't there.
-abbrev pub is_going_on : Pasted → Bench → Bench
-is_going_on p b = becomes p.controller (with_levels b.dock (levels_in p.controller.machine) b.levels) b
+abbrev pub is_going_on : Controller → Bench → Bench
+is_going_on c b = becomes c (with_levels b.dock (levels_in c.machine) b.levels) b
 
-unfoldable pub loaded_by : Pasted → Bench → Bench
-loaded_by p b = cond (is_there b) (cond (is_fit p.finding) (is_going_on p b) b) b
+abbrev pub taken_up : Result Pasted Refused → Bench → Bench
+taken_up (Ok p) b = is_going_on p.controller b
+taken_up (Err r) b = b
+
+unfoldable pub loaded_by : Result Pasted Refused → Bench → Bench
+loaded_by p b = cond (is_there b) (taken_up p b) b
 
 -- An order sends its words; `at` changes the address byte, `load` the chosen dock, by the text beside it, and `kind` its named kind;
 -- `chassis` clears the bench, and `dock` chooses.
@@ -136,20 +139,20 @@ obeyed (Name n) t b = named_as n b
 obeyed (Docks n) t b = fresh_docks n b.address
 obeyed (Choose d) t b = record { chassis = b.chassis; dock = d; address = b.address; levels = b.levels }
 
--- A line that isn't understood changes nothing.
-abbrev pub does : Line → List ℕ → Bench → Bench
-does Blank t b = b
-does Unknown t b = b
-does (Misused v) t b = b
-does (Mishandled h) t b = b
-does (Does o) t b = obeyed o t b
+-- A line is an order, or nothing, which changes nothing; or it isn't understood, and then there is no other bench than the one
+-- before it.
+abbrev pub does : Line → List ℕ → Bench → Result Bench Mistake
+does (Ok None) t b = Ok b
+does (Ok (Some o)) t b = Ok (obeyed o t b)
+does (Err m) t b = Err m
 
-abbrev pub understood : Line → Bool
-understood Blank = true
-understood Unknown = false
-understood (Misused v) = false
-understood (Mishandled h) = false
-understood (Does o) = true
+unfoldable pub heeded : List ℕ → Bench → Result Bench Mistake
+heeded l b = does (line_of l) (argument_of l) b
 
-unfoldable pub heeded : List ℕ → Bench → Heeded
-heeded l b = record { bench = does (line_of l) (argument_of l) b; understood = understood (line_of l) }
+abbrev pub left : Result Bench Mistake → Bench → Bench
+left (Ok after) b = after
+left (Err m) b = b
+
+-- The bench after a line.
+abbrev pub after_line : List ℕ → Bench → Bench
+after_line l b = left (heeded l b) b

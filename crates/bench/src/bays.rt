@@ -1,185 +1,208 @@
 // What can be seen of the bays, in words: state, device, power, lock and lamps, and the interrupt.
-use crate::Seen;
-use crate::say::{say, say_count, say_either, say_if};
+use crate::say::{part, plural, say};
 use bay::Bay;
 use bits::has;
 use dock::Controller;
 use kind::Kind;
 use machine::{Shared, first_kind, second_kind};
+use std::fmt;
 use std::io::Stdout;
+
+// What can be seen of a bay.
+#[derive(Clone, Copy)]
+pub(crate) struct SeenBay {
+    bstr: u8,
+    // For how many ticks more its device seats.
+    wait: u16,
+    // Its power, lock pin, green and yellow, bit 3 to 0.
+    pins: u16,
+}
+
+// What can be seen of a dock.
+#[derive(Clone, Copy)]
+pub(crate) struct Seen {
+    // A RESET has come.
+    started: bool,
+    // The second kind is in force.
+    second: bool,
+    // Bay 1 is closed.
+    one_bay: bool,
+    bay_0: SeenBay,
+    bay_1: SeenBay,
+    interrupt: bool,
+}
 
 // A register's reading, which is a byte.
 pub(crate) fn read(controller: Controller, register: u8) -> u8 {
-    (controller.reading(register).value() % 256) as u8
-}
-
-pub(crate) fn kind_of(controller: Controller) -> Kind {
-    let machine = controller.machine;
-    let kind = machine.kind;
-    kind
+    (controller.reading(register).unwrap_or(0) % 256) as u8
 }
 
 // What is to be seen of a controller now, with these addresses of DBCCR and of each bay's BSTR.
 fn look_at(controller: Controller, dbccr: u8, bstr_0: u8, bstr_1: u8) -> Seen {
     let machine = controller.machine;
-    let bays = machine.bays;
+    let outputs = controller.outputs().unwrap_or(0);
     Seen {
         started: machine.started,
-        second: kind_of(controller).is_second(),
+        second: machine.kind.is_second(),
         one_bay: read(controller, dbccr) % 4 == Shared::ONE_BAY,
-        bstr_0: read(controller, bstr_0),
-        bstr_1: read(controller, bstr_1),
-        wait_0: bays[0].wait,
-        wait_1: bays[1].wait,
-        outputs: controller.outputs().value(),
+        bay_0: SeenBay {
+            bstr: read(controller, bstr_0),
+            wait: machine.bays[0].wait,
+            pins: outputs / 32,
+        },
+        bay_1: SeenBay {
+            bstr: read(controller, bstr_1),
+            wait: machine.bays[1].wait,
+            pins: outputs / 2 % 16,
+        },
+        interrupt: outputs % 2 == 1,
     }
 }
 
 // What is to be seen of it, whichever kind is in force.
 pub(crate) fn look(controller: Controller) -> Seen {
-    match kind_of(controller) {
-        Kind::First => {
-            look_at(
-                controller,
-                first_kind::DBCCR,
-                first_kind::BSTR_0,
-                first_kind::BSTR_1,
-            )
-        }
-        Kind::Second => {
-            look_at(
-                controller,
-                second_kind::DBCCR,
-                second_kind::BSTR_0,
-                second_kind::BSTR_1,
-            )
-        }
+    match controller.machine.kind {
+        Kind::First => look_at(
+            controller,
+            first_kind::DBCCR,
+            first_kind::BSTR_0,
+            first_kind::BSTR_1,
+        ),
+        Kind::Second => look_at(
+            controller,
+            second_kind::DBCCR,
+            second_kind::BSTR_0,
+            second_kind::BSTR_1,
+        ),
     }
 }
 
 // A bay state by its name.
-pub(crate) fn say_state(out: Stdout, state: u8) {
-    match state {
-        Bay::EMPTY => say(out, b"Empty"),
-        Bay::INSERTED => say(out, b"Inserted"),
-        Bay::ENABLED => say(out, b"Enabled"),
-        Bay::REMOVAL_REQUESTED => say(out, b"Removal Requested"),
-        Bay::REMOVAL_ALLOWED => say(out, b"Removal Allowed"),
-        _ => say(out, b"no state"),
+#[derive(Clone, Copy)]
+pub(crate) struct State(pub(crate) u8);
+
+impl fmt::Display for State {
+    fn fmt<W: fmt::Write>(&self, f: &mut fmt::Formatter<W>) -> fmt::Result {
+        f.write_str(match self.0 {
+            Bay::EMPTY => "Empty",
+            Bay::INSERTED => "Inserted",
+            Bay::ENABLED => "Enabled",
+            Bay::REMOVAL_REQUESTED => "Removal Requested",
+            Bay::REMOVAL_ALLOWED => "Removal Allowed",
+            _ => "no state",
+        })
     }
 }
 
-pub(crate) fn say_bay(out: Stdout, bstr: u8) {
-    say_state(out, bstr / 16 % 8);
-    say_if(out, has(bstr, 2), b", 1394 device");
-    say_if(out, has(bstr, 1), b", USB device");
-    say_if(out, bstr % 4 == 0, b", no device");
-    say_if(out, has(bstr, 8), b", REMREQ_STS");
-    say_if(out, has(bstr, 4), b", DEVSTSCHG");
-    say_if(out, has(bstr, 128), b", nSL low");
-}
+// What a BSTR says.
+#[derive(Clone, Copy)]
+pub(crate) struct Status(pub(crate) u8);
 
-fn say_wait(out: Stdout, wait: u16) {
-    if wait != 0 {
-        say(out, b", seats for ");
-        say_count(out, wait as u64);
-        say_either(out, wait == 1, b" tick more", b" ticks more");
+impl fmt::Display for Status {
+    fn fmt<W: fmt::Write>(&self, f: &mut fmt::Formatter<W>) -> fmt::Result {
+        let bstr = self.0;
+        let state = State(bstr / 16 % 8);
+        write!(f, "{state}")?;
+        f.write_str(part(has(bstr, 2), ", 1394 device"))?;
+        f.write_str(part(has(bstr, 1), ", USB device"))?;
+        f.write_str(part(bstr % 4 == 0, ", no device"))?;
+        f.write_str(part(has(bstr, 8), ", REMREQ_STS"))?;
+        f.write_str(part(has(bstr, 4), ", DEVSTSCHG"))?;
+        f.write_str(part(has(bstr, 128), ", nSL low"))
     }
 }
 
-// A bay's line: its BSTR and its wait, then its power, lock pin, green and yellow, bit 3 to 0.
-fn tell_bay(out: Stdout, name: &[u8], bstr: u8, wait: u16, pins: u8) {
-    say(out, name);
-    say_bay(out, bstr);
-    say_wait(out, wait);
-    say_either(out, has(pins, 8), b"; power on", b"; power off");
-    say_either(out, has(pins, 4), b", lock pin high", b", lock pin low");
-    say_either(out, has(pins, 2), b", green on", b", green off");
-    say_either(out, has(pins, 1), b", yellow on\n", b", yellow off\n");
+fn high_or_low(pin: bool) -> &'static str {
+    if pin { "high" } else { "low" }
 }
 
-fn tell_bay_0(out: Stdout, seen: Seen) {
-    tell_bay(
-        out,
-        b"  bay 0: ",
-        seen.bstr_0,
-        seen.wait_0,
-        (seen.outputs / 32 % 16) as u8,
-    );
+fn on_or_off(pin: bool) -> &'static str {
+    if pin { "on" } else { "off" }
 }
 
-fn tell_bay_1(out: Stdout, seen: Seen) {
-    if seen.one_bay {
-        say(out, b"  bay 1: closed\n");
-    } else {
-        tell_bay(
-            out,
-            b"  bay 1: ",
-            seen.bstr_1,
-            seen.wait_1,
-            (seen.outputs / 2 % 16) as u8,
-        );
+// Its BSTR and its wait, then its outputs.
+impl fmt::Display for SeenBay {
+    fn fmt<W: fmt::Write>(&self, f: &mut fmt::Formatter<W>) -> fmt::Result {
+        let status = Status(self.bstr);
+        write!(f, "{status}")?;
+        let wait = self.wait;
+        if wait != 0 {
+            let s = plural(u64::from(wait));
+            write!(f, ", seats for {wait} tick{s} more")?;
+        }
+        let power = on_or_off(self.pins / 8 % 2 == 1);
+        let lock = high_or_low(self.pins / 4 % 2 == 1);
+        let green = on_or_off(self.pins / 2 % 2 == 1);
+        let yellow = on_or_off(self.pins % 2 == 1);
+        write!(
+            f,
+            "; power {power}, lock pin {lock}, green {green}, yellow {yellow}"
+        )
     }
 }
 
-fn tell_interrupt(out: Stdout, seen: Seen) {
-    say_either(
-        out,
-        seen.outputs % 2 == 1,
-        b"  interrupt: asserted\n",
-        b"  interrupt: not asserted\n",
-    );
+impl SeenBay {
+    // A wait begins or is over; that it falls tick by tick is no news.
+    fn differs(self, before: SeenBay) -> bool {
+        self.bstr != before.bstr
+            || self.pins != before.pins
+            || (self.wait == 0) != (before.wait == 0)
+    }
 }
 
 pub(crate) fn tell_unstarted(out: Stdout) {
-    say(out, b"  no RESET has come yet\n");
+    say(out, "  no RESET has come yet\n");
 }
 
-pub(crate) fn tell_all(out: Stdout, seen: Seen) {
-    if !seen.started {
-        tell_unstarted(out);
-        return;
+impl Seen {
+    fn tell_bay_0(self, out: Stdout) {
+        let bay = self.bay_0;
+        say(out, format_args!("  bay 0: {bay}\n"));
     }
-    say_if(out, seen.second, b"  the second kind is in force\n");
-    tell_bay_0(out, seen);
-    tell_bay_1(out, seen);
-    tell_interrupt(out, seen);
-}
 
-// A wait begins or is over; that it falls tick by tick is no news.
-fn wait_differs(before: u16, after: u16) -> bool {
-    (before == 0) != (after == 0)
-}
-
-fn bay_0_differs(before: Seen, after: Seen) -> bool {
-    (before.bstr_0 != after.bstr_0)
-        | (before.outputs / 32 != after.outputs / 32)
-        | wait_differs(before.wait_0, after.wait_0)
-}
-
-fn bay_1_differs(before: Seen, after: Seen) -> bool {
-    (before.one_bay != after.one_bay)
-        | (before.bstr_1 != after.bstr_1)
-        | (before.outputs / 2 % 16 != after.outputs / 2 % 16)
-        | wait_differs(before.wait_1, after.wait_1)
-}
-
-fn interrupt_differs(before: Seen, after: Seen) -> bool {
-    before.outputs % 2 != after.outputs % 2
-}
-
-pub(crate) fn differs(before: Seen, after: Seen) -> bool {
-    bay_0_differs(before, after) | bay_1_differs(before, after) | interrupt_differs(before, after)
-}
-
-pub(crate) fn tell_changes(out: Stdout, before: Seen, after: Seen) {
-    if bay_0_differs(before, after) {
-        tell_bay_0(out, after);
+    fn tell_bay_1(self, out: Stdout) {
+        let bay = self.bay_1;
+        if self.one_bay {
+            say(out, "  bay 1: closed\n");
+        } else {
+            say(out, format_args!("  bay 1: {bay}\n"));
+        }
     }
-    if bay_1_differs(before, after) {
-        tell_bay_1(out, after);
+
+    fn tell_interrupt(self, out: Stdout) {
+        let not = part(!self.interrupt, "not ");
+        say(out, format_args!("  interrupt: {not}asserted\n"));
     }
-    if interrupt_differs(before, after) {
-        tell_interrupt(out, after);
+
+    pub(crate) fn tell(self, out: Stdout) {
+        if !self.started {
+            return tell_unstarted(out);
+        }
+        say(out, part(self.second, "  the second kind is in force\n"));
+        self.tell_bay_0(out);
+        self.tell_bay_1(out);
+        self.tell_interrupt(out);
+    }
+
+    fn bay_1_differs(self, before: Seen) -> bool {
+        self.one_bay != before.one_bay || self.bay_1.differs(before.bay_1)
+    }
+
+    pub(crate) fn differs(self, before: Seen) -> bool {
+        self.bay_0.differs(before.bay_0)
+            || self.bay_1_differs(before)
+            || self.interrupt != before.interrupt
+    }
+
+    pub(crate) fn tell_changes(self, out: Stdout, before: Seen) {
+        if self.bay_0.differs(before.bay_0) {
+            self.tell_bay_0(out);
+        }
+        if self.bay_1_differs(before) {
+            self.tell_bay_1(out);
+        }
+        if self.interrupt != before.interrupt {
+            self.tell_interrupt(out);
+        }
     }
 }

@@ -1,18 +1,19 @@
 // The dock's state as an image in hex: told, and taken again, or why it is not taken.
 ghost use Rattle.std.specs.Prelude.{◌≡◌};
 ghost use Rattle.paste.specs.Findings.{pasted_of};
-ghost use Rattle.bench.specs.Orders.{loaded_by};
+ghost use Rattle.bench.specs.Orders.{is_going_on, loaded_by};
 
 use crate::Bench;
-use crate::bays::{look, tell_all};
-use crate::docks::{is_there, with_levels, with_record};
+use crate::bays::look;
+use crate::docks::{is_there, with_place, with_record};
 use crate::events::tell_absent;
 use crate::levels::levels_in;
-use crate::say::{say, say_count, say_either};
+use crate::say::{plural, say, say_typed};
 use bay::Bay;
 use dock::Controller;
-use image::Verdict;
-use paste::{Finding, Out};
+use image::Flaw;
+use paste::{Finding, Ranged, Refused};
+use std::fmt;
 use std::io::Stdout;
 
 const FORM_FACTOR_0: usize = image::FORM_FACTORS;
@@ -27,10 +28,9 @@ const NUSB: usize = image::COUNTS + Bay::NUSB;
 const NREMREQ: usize = image::COUNTS + Bay::NREMREQ;
 
 pub(crate) fn tell_image(out: Stdout, controller: Controller) {
-    let text = paste::write(controller);
-    say(out, b"  ");
-    say(out, &text);
-    say(out, b"\n");
+    say(out, "  ");
+    say_typed(out, &paste::write(controller));
+    say(out, "\n");
 }
 
 // The chosen dock goes on from the image, or stays as it was.
@@ -38,154 +38,165 @@ pub(crate) fn tell_image(out: Stdout, controller: Controller) {
 pub(crate) fn load(out: Stdout, bench: Bench, text: &[u8]) -> Bench
     ensures { result ≡ loaded_by (pasted_of text.now) bench }
 {
-    let dock = bench.dock;
     if !is_there(bench) {
-        tell_absent(out, dock);
+        tell_absent(out, bench.dock);
         return bench;
     }
-    let pasted = paste::read(text);
-    let finding = pasted.finding;
-    let bytes = pasted.bytes;
-    let controller = pasted.controller;
-    if finding.is_fit() {
-        say(out, b"  loaded\n");
-        tell_all(out, look(controller));
-        let chassis = bench.chassis;
-        let before = bench.levels;
-        let next = with_record(chassis, dock, controller);
-        let levels = with_levels(before, dock, levels_in(controller));
-        return Bench {
-            chassis: next,
-            dock,
-            address: bench.address,
-            levels,
-        };
+    match paste::read(text) {
+        Ok(pasted) => {
+            say(out, "  loaded\n");
+            look(pasted.controller).tell(out);
+            bench.going_on(pasted.controller)
+        }
+        Err(refused) => {
+            tell_refused(out, refused);
+            bench
+        }
     }
-    tell_refused(out, finding, bytes);
-    bench
 }
 
-fn tell_refused(out: Stdout, finding: Finding, bytes: [u8; image::BYTES]) {
-    say(out, b"  not loaded, the dock is as it was: ");
-    match finding {
-        Finding::Fit => {}
+impl Bench {
+    // The chosen dock is this one from now on, with the levels that it has stored.
+    #[tactic(auto, unfolding(crate::specs::Docks::with_levels))]
+    fn going_on(self, controller: Controller) -> Bench
+        ensures { result ≡ is_going_on controller self }
+    {
+        Bench {
+            chassis: with_record(self.chassis, self.dock, controller),
+            levels: with_place(self.levels, self.dock, levels_in(controller)),
+            ..self
+        }
+    }
+}
+
+fn tell_refused(out: Stdout, refused: Refused) {
+    let bytes = refused.bytes;
+    say(out, "  not loaded, the dock is as it was: ");
+    match refused.finding {
         Finding::NoDigit(count) => {
-            say_digits(out, count);
-            say(out, b", and then a character that is none");
+            let s = plural(count as u64);
+            say(
+                out,
+                format_args!("{count} hex digit{s}, and then a character that is none"),
+            );
         }
         Finding::OddDigit(count) => {
-            say_digits(out, count);
-            say(out, b", and a byte has two");
+            let s = plural(count as u64);
+            say(
+                out,
+                format_args!("{count} hex digit{s}, and a byte has two"),
+            );
         }
         Finding::OtherLength(count) => {
-            say_count(out, count as u64);
-            say_either(out, count == 1, b" byte", b" bytes");
-            say(out, b", and an image has ");
-            say_count(out, image::BYTES as u64);
+            let s = plural(count as u64);
+            let wanted = image::BYTES;
+            say(
+                out,
+                format_args!("{count} byte{s}, and an image has {wanted}"),
+            );
         }
-        Finding::NoImage(verdict) => say_verdict(out, verdict, bytes),
-        Finding::Unfit(number) => say_unfit(out, number),
+        Finding::NoImage(flaw) => tell_flaw(out, flaw, bytes),
+        Finding::Unfit(number) => tell_unfit(out, number),
     }
-    say(out, b"\n");
+    say(out, "\n");
 }
 
-fn say_digits(out: Stdout, count: usize) {
-    say_count(out, count as u64);
-    say_either(out, count == 1, b" hex digit", b" hex digits");
-}
+// What stands at a place of an image.
+#[derive(Clone, Copy)]
+struct Value(Option<u8>);
 
-fn say_place(out: Stdout, at: usize) {
-    say(out, b"byte ");
-    say_count(out, at as u64);
-}
-
-fn say_value(out: Stdout, bytes: [u8; image::BYTES], at: usize) {
-    if at < image::BYTES {
-        say(out, b" is ");
-        say_count(out, bytes[at] as u64);
+impl fmt::Display for Value {
+    fn fmt<W: fmt::Write>(&self, f: &mut fmt::Formatter<W>) -> fmt::Result {
+        match self.0 {
+            Some(value) => write!(f, " is {value}"),
+            None => Ok(()),
+        }
     }
 }
 
 // Why bytes are no image: which of them, what it is and what it may be.
-fn say_verdict(out: Stdout, verdict: Verdict, bytes: [u8; image::BYTES]) {
-    match verdict {
-        Verdict::Whole => {}
-        Verdict::WrongLength => {}
-        Verdict::UnknownVersion => {
-            say_place(out, image::VERSION);
-            say(out, b", the layout's version,");
-            say_value(out, bytes, image::VERSION);
-            say(out, b": this bench knows ");
-            say_count(out, image::LAYOUT as u64);
+fn tell_flaw(out: Stdout, flaw: Flaw, bytes: [u8; image::BYTES]) {
+    let value = |at: usize| Value(bytes.get(at).copied());
+    let progress = image::PROGRESS;
+    match flaw {
+        Flaw::WrongLength => {}
+        Flaw::UnknownVersion => {
+            let version = image::VERSION;
+            let layout = image::LAYOUT;
+            say(
+                out,
+                format_args!(
+                    "byte {version}, the layout's version,{}: this bench knows {layout}",
+                    value(version)
+                ),
+            );
         }
-        Verdict::NotAFlag(at) => {
-            say_place(out, at);
-            say(out, b", a flag,");
-            say_value(out, bytes, at);
-            say(out, b": it is 0 or 1");
-        }
-        Verdict::UnknownProgress => {
-            say_place(out, image::PROGRESS);
-            say(out, b", the command in progress,");
-            say_value(out, bytes, image::PROGRESS);
-            say(out, b": it is 0 to 8");
-        }
-        Verdict::NotUsed(at) => {
-            say_place(out, at);
-            say_value(out, bytes, at);
-            say(out, b": it is 0 while ");
-            say_place(out, image::PROGRESS);
-            say(out, b", the command in progress,");
-            say_value(out, bytes, image::PROGRESS);
-        }
+        Flaw::NotAFlag(at) => say(
+            out,
+            format_args!("byte {at}, a flag,{}: it is 0 or 1", value(at)),
+        ),
+        Flaw::UnknownProgress => say(
+            out,
+            format_args!(
+                "byte {progress}, the command in progress,{}: it is 0 to 8",
+                value(progress)
+            ),
+        ),
+        Flaw::NotUsed(at) => say(
+            out,
+            format_args!(
+                "byte {at}{}: it is 0 while byte {progress}, the command in progress,{}",
+                value(at),
+                value(progress)
+            ),
+        ),
     }
 }
 
 // A number out of its range.
-fn say_unfit(out: Stdout, number: Out) {
-    let at = number.at;
-    say_place(out, at);
-    say_name(out, at);
-    say(out, b" is ");
-    say_count(out, number.value as u64);
-    say(out, b": it is 0 to ");
-    say_count(out, number.last as u64);
+fn tell_unfit(out: Stdout, number: Ranged) {
+    let Ranged { at, value, last } = number;
+    let name = Name(at);
+    say(
+        out,
+        format_args!("byte {at}{name} is {value}: it is 0 to {last}"),
+    );
 }
 
-fn say_name(out: Stdout, at: usize) {
-    match at {
-        image::STRAPS => say(out, b", the straps,"),
-        image::BAY_COUNT => say(out, b", the bay count,"),
-        image::LOCK_TIME => say(out, b", the lock time,"),
-        image::PHASE => say(out, b", the phase,"),
-        FORM_FACTOR_0 => say(out, b", the form factor of bay 0,"),
-        FORM_FACTOR_1 => say(out, b", the form factor of bay 1,"),
-        _ => say_bay_name(out, at),
+// What the number is that begins at a place of an image.
+#[derive(Clone, Copy)]
+struct Name(usize);
+
+impl fmt::Display for Name {
+    fn fmt<W: fmt::Write>(&self, f: &mut fmt::Formatter<W>) -> fmt::Result {
+        match self.0 {
+            image::STRAPS => f.write_str(", the straps,"),
+            image::BAY_COUNT => f.write_str(", the bay count,"),
+            image::LOCK_TIME => f.write_str(", the lock time,"),
+            image::PHASE => f.write_str(", the phase,"),
+            FORM_FACTOR_0 => f.write_str(", the form factor of bay 0,"),
+            FORM_FACTOR_1 => f.write_str(", the form factor of bay 1,"),
+            at if image::NUMBERS_1 <= at => {
+                write!(f, "{} of bay 1,", number_name(at - image::NUMBERS_1))
+            }
+            at if image::NUMBERS_0 <= at => {
+                write!(f, "{} of bay 0,", number_name(at - image::NUMBERS_0))
+            }
+            _ => Ok(()),
+        }
     }
 }
 
-fn say_bay_name(out: Stdout, at: usize) {
-    let first = at < image::NUMBERS_1;
-    let start = if first {
-        image::NUMBERS_0
-    } else {
-        image::NUMBERS_1
-    };
-    if start <= at {
-        say_kind(out, at - start);
-        say_either(out, first, b" of bay 0,", b" of bay 1,");
-    }
-}
-
-fn say_kind(out: Stdout, number: usize) {
+// A number of a bay, by its place among them.
+fn number_name(number: usize) -> &'static str {
     match number {
-        N1394 => say(out, b", the count of n1394"),
-        NUSB => say(out, b", the count of nUSB"),
-        NREMREQ => say(out, b", the count of nREMREQ"),
-        image::STATE => say(out, b", the state"),
-        image::REQUEST => say(out, b", the stored request"),
-        image::PULSE => say(out, b", the pulse"),
-        image::WAIT => say(out, b", the wait"),
-        _ => {}
+        N1394 => ", the count of n1394",
+        NUSB => ", the count of nUSB",
+        NREMREQ => ", the count of nREMREQ",
+        image::STATE => ", the state",
+        image::REQUEST => ", the stored request",
+        image::PULSE => ", the pulse",
+        image::WAIT => ", the wait",
+        _ => "",
     }
 }

@@ -1,46 +1,29 @@
 // Standard input, line by line.
-ghost use Rattle.std.specs.Prelude.{◌≤◌, length};
-
 use crate::Typed;
+use arrayvec::ArrayVec;
 use std::io::{Read, Stdin};
 
-// Puts a character at a place of the buffer and answers the next place, the same one where the buffer is full.
-pub(crate) fn put(text: &mut [u8], at: usize, c: u8) -> usize
-    requires { at ≤ length text.old }
-    ensures { result ≤ length text.new }
-{
-    if at < text.len() {
-        text[at] = c;
-        return at + 1;
-    }
-    at
-}
-
-// Reads a line into the buffer. What has no place there is read and let go.
-pub(crate) fn read_line(mut input: Stdin, text: &mut [u8]) -> Typed
-    ensures { result.length ≤ length text.new }
-{
-    let mut length = 0;
+// Reads a line. What has no place in it is read and let go.
+pub(crate) fn read_line(mut input: Stdin) -> Typed {
+    let mut line = ArrayVec::new();
     let mut longer = false;
     for _ in 0..u64::MAX {
-        let mut one = [0u8; 1];
+        let mut one = [0];
         if input.read_exact(&mut one).is_err() {
             break;
         }
-        let c = one[0];
+        let [c] = one;
         if c == b'\n' {
             return Typed {
-                length,
+                line,
                 longer,
                 ended: false,
             };
         }
-        let next = put(text, length, c);
-        longer = longer | (next == length);
-        length = next;
+        longer |= line.try_push(c).is_err();
     }
     Typed {
-        length,
+        line,
         longer,
         ended: true,
     }

@@ -21,11 +21,12 @@ mod transfers;
 ghost use Rattle.std.specs.Prelude.{◌≡◌};
 ghost use Rattle.bench.specs.Orders.{heeded};
 
+use arrayvec::ArrayVec;
 use chassis::{Answer, Chassis, MOST};
-use help::{tell_longer, tell_mishandling, tell_misuse, tell_unknown, tell_wrong};
+use help::{Fault, tell_fault, tell_wrong};
 use input::read_line;
-use say::{said, say, say_if};
-use script::Line;
+use say::{part, said, say, say_typed};
+use script::Mistake;
 use std::io::{IsTerminal, Stdin, Stdout};
 
 // The docks on the bus, and what the lines to come depend on besides.
@@ -47,102 +48,34 @@ struct Sent {
     answer: Answer,
 }
 
-// After the TAKEs of a read: the bench, and how many bytes were driven.
-#[derive(Clone, Copy)]
-struct Took {
-    bench: Bench,
-    count: usize,
-}
-
-// What can be seen of a dock.
-#[derive(Clone, Copy)]
-struct Seen {
-    // A RESET has come.
-    started: bool,
-    // The second kind is in force.
-    second: bool,
-    // Bay 1 is closed.
-    one_bay: bool,
-    bstr_0: u8,
-    bstr_1: u8,
-    // For how many ticks more each bay's device seats.
-    wait_0: u16,
-    wait_1: u16,
-    outputs: u16,
-}
-
 // A line as it was read.
-#[derive(Clone, Copy)]
+#[derive(Drop)]
 struct Typed {
-    // How much of it has a place in the buffer.
-    length: usize,
+    // What of it has a place.
+    line: ArrayVec<u8, LONGEST>,
     // It has more characters than that.
     longer: bool,
     // The input ended with it.
     ended: bool,
 }
 
-// After a line: the bench, and whether the line was understood.
-#[derive(Clone, Copy)]
-struct Heeded {
-    bench: Bench,
-    understood: bool,
-}
-
-// The same, and whether there may be another line.
-#[derive(Clone, Copy)]
-struct Done {
-    heeded: Heeded,
-    more: bool,
-}
-
 // The longest line.
 const LONGEST: usize = 255;
 
-// What a line does: one that isn't understood changes nothing.
+// What a line does, or why it isn't understood: such a line changes nothing.
 #[tactic(auto, unfolding(crate::specs::Orders::heeded))]
-fn heed(out: Stdout, bench: Bench, number: u64, line: &[u8]) -> Heeded
+fn heed(out: Stdout, bench: Bench, line: &[u8]) -> Result<Bench, Mistake>
     ensures { result ≡ heeded line.now bench }
 {
-    match script::meaning(line) {
-        Line::Blank => Heeded {
-            bench,
-            understood: true,
-        },
-        Line::Unknown => {
-            tell_unknown(out, number);
-            Heeded {
-                bench,
-                understood: false,
-            }
-        }
-        Line::Misused(verb) => {
-            tell_misuse(out, number, verb);
-            Heeded {
-                bench,
-                understood: false,
-            }
-        }
-        Line::Mishandled(hand) => {
-            tell_mishandling(out, number, hand);
-            Heeded {
-                bench,
-                understood: false,
-            }
-        }
-        Line::Does(order) => Heeded {
-            bench: bench.obey(out, order, script::argument(line)),
-            understood: true,
-        },
+    match script::meaning(line)? {
+        Some(order) => Ok(bench.obey(out, order, script::argument(line))),
+        None => Ok(bench),
     }
 }
 
 // A person sees a sign that a line is awaited; answers whether anybody reads it.
 fn ask(out: Stdout, typing: bool) -> bool {
-    if !typing {
-        return true;
-    }
-    said(out, b"> ")
+    !typing || said(out, "> ")
 }
 
 // Of a script the line itself is told; answers whether anybody reads it.
@@ -150,52 +83,22 @@ fn echo(out: Stdout, typing: bool, line: &[u8]) -> bool {
     if typing {
         return true;
     }
-    say_if(out, 0 < line.len(), b"> ");
-    say(out, line);
-    said(out, b"\n")
+    say(out, part(!line.is_empty(), "> "));
+    say_typed(out, line);
+    said(out, "\n")
 }
 
-// The end, with nothing done.
-fn end(bench: Bench) -> Done {
-    Done {
-        heeded: Heeded {
-            bench,
-            understood: true,
-        },
-        more: false,
-    }
-}
-
-// One line. Where nobody reads what is told, none is taken any more.
-fn turn(input: Stdin, out: Stdout, bench: Bench, number: u64, typing: bool) -> Done {
-    let mut text = [0u8; LONGEST];
+// The next line; none at the input's end, or where nobody reads any more what is told.
+fn next_line(input: Stdin, out: Stdout, typing: bool) -> Option<Typed> {
     if !ask(out, typing) {
-        return end(bench);
+        return None;
     }
-    let typed = read_line(input, &mut text);
-    let length = typed.length;
-    let line = &text[..length];
-    if typed.ended & (length == 0) {
-        say_if(out, typing, b"\n");
-        return end(bench);
+    let typed = read_line(input);
+    if typed.ended && typed.line.is_empty() {
+        say(out, part(typing, "\n"));
+        return None;
     }
-    if !echo(out, typing, line) {
-        return end(bench);
-    }
-    if typed.longer {
-        tell_longer(out, number);
-        return Done {
-            heeded: Heeded {
-                bench,
-                understood: false,
-            },
-            more: !typed.ended,
-        };
-    }
-    Done {
-        heeded: heed(out, bench, number, line),
-        more: !typed.ended,
-    }
+    echo(out, typing, typed.line.as_slice()).then_some(typed)
 }
 
 // A proved loop ends, and nothing says that an input does: the lines are counted up to a number that no run reaches.
@@ -206,15 +109,24 @@ fn main(rt: HostRuntime) {
     let mut bench = Bench::fresh();
     let mut wrong: u64 = 0;
     for number in 1..u64::MAX {
-        let done = turn(input, out, bench, number, typing);
-        let heeded = done.heeded;
-        if !heeded.understood {
-            wrong += 1;
+        let Some(typed) = next_line(input, out, typing) else {
+            break;
+        };
+        let heeded = if typed.longer {
+            Err(Fault::Longer)
+        } else {
+            heed(out, bench, typed.line.as_slice()).map_err(Fault::Mistake)
+        };
+        match heeded {
+            Ok(next) => bench = next,
+            Err(fault) => {
+                tell_fault(out, number, fault);
+                wrong += 1;
+            }
         }
-        if !done.more {
+        if typed.ended {
             break;
         }
-        bench = heeded.bench;
     }
     tell_wrong(out, wrong);
 }

@@ -4,7 +4,7 @@ ghost use Rattle.event.specs.declared.Event.TheVariants.{Tick};
 ghost use Rattle.bench.specs.Orders.{word_for, sent_of, after_words, named_as, fresh_docks, fresh_bench, obeyed};
 
 use crate::Bench;
-use crate::docks::{AT_REST, is_on, is_there, levels_at, record_at, with_record};
+use crate::docks::{AT_REST, is_on, is_there, place_at, record_at, with_record};
 use crate::events::{
     is_reset, tell_absent, tell_address, tell_answer, tell_choice, tell_docks, tell_naming,
 };
@@ -13,7 +13,7 @@ use crate::help::tell_help;
 use crate::images::{load, tell_image};
 use crate::levels::{pulled, raised};
 use crate::registers::tell_registers;
-use crate::say::{say, say_count, say_if};
+use crate::say::{part, say};
 use crate::sending::{send, step, tell_end, word_for};
 use crate::transfers::{read, write};
 use chassis::{Answer, Chassis, MOST};
@@ -24,10 +24,9 @@ use std::io::Stdout;
 
 // What one word did. After a RESET everything of its dock is told, since everything is new.
 fn tell_one(out: Stdout, before: Bench, word: u16, answer: Answer, after: Bench) {
-    if is_reset(word) & (answer.refusal() == 0) {
-        let chassis = after.chassis;
-        say(out, b"\n");
-        tell_dock(out, chassis, after.dock);
+    if is_reset(word) && answer.is_ok() {
+        say(out, "\n");
+        tell_dock(out, after.chassis, after.dock);
     } else {
         tell_end(out, before, after);
     }
@@ -38,10 +37,8 @@ fn one(out: Stdout, bench: Bench, word: u16) -> Bench
     ensures { result ≡ (sent_of bench word).bench }
 {
     let sent = send(out, bench, word);
-    let next = sent.bench;
-    let answer = sent.answer;
-    tell_one(out, bench, word, answer, next);
-    next
+    tell_one(out, bench, word, sent.answer, sent.bench);
+    sent.bench
 }
 
 // The call that names a kind: it is no event, and changes nothing that is told besides.
@@ -49,44 +46,32 @@ fn one(out: Stdout, bench: Bench, word: u16) -> Bench
 fn name(out: Stdout, bench: Bench, number: u8) -> Bench
     ensures { result ≡ named_as number bench }
 {
-    let dock = bench.dock;
     if !is_there(bench) {
-        tell_absent(out, dock);
+        tell_absent(out, bench.dock);
         return bench;
     }
-    let chassis = bench.chassis;
-    let levels = bench.levels;
-    let renamed = record_at(chassis, dock).name(number);
-    let controller = renamed.controller;
-    let naming = renamed.naming;
-    tell_naming(out, number, naming);
-    let next = with_record(chassis, dock, controller);
+    let renamed = record_at(bench.chassis, bench.dock).name(number);
+    tell_naming(out, number, renamed.naming);
     Bench {
-        chassis: next,
-        dock,
-        address: bench.address,
-        levels,
+        chassis: with_record(bench.chassis, bench.dock, renamed.controller),
+        ..bench
     }
 }
 
 // What the i-th TICK of a line changed, or why it was refused; answers whether there was anything to tell.
 fn tell_tick(out: Stdout, i: u16, answer: Answer, before: Bench, after: Bench) -> bool {
-    if 0 < answer.refusal() {
+    if answer.is_err() {
         if i == 1 {
-            say(out, b"  TICK");
+            say(out, "  TICK");
             tell_answer(out, answer, before, word_for(Event::Tick));
-            say(out, b"\n");
+            say(out, "\n");
         }
         return true;
     }
-    let old = before.chassis;
-    let new = after.chassis;
-    let changed = any_changed(old, new);
+    let changed = any_changed(before.chassis, after.chassis);
     if changed {
-        say(out, b"  after tick ");
-        say_count(out, i as u64);
-        say(out, b":\n");
-        tell_all_changed(out, old, new);
+        say(out, format_args!("  after tick {i}:\n"));
+        tell_all_changed(out, before.chassis, after.chassis);
     }
     changed
 }
@@ -99,38 +84,23 @@ fn ticks(out: Stdout, bench: Bench, count: u16) -> Bench
     let word = word_for(Event::Tick);
     let mut state = bench;
     let mut quiet = true;
-    let mut i: u16 = 0;
-    while i < count {
-        let before = state;
+    for i in 0..count {
         let sent = step(state, word);
-        let answer = sent.answer;
+        quiet &= !tell_tick(out, i + 1, sent.answer, state, sent.bench);
         state = sent.bench;
-        i += 1;
-        quiet = !tell_tick(out, i, answer, before, state) & quiet;
     }
-    say_if(out, quiet, b"  no change\n");
+    say(out, part(quiet, "  no change\n"));
     state
 }
 
-// Every register of the chosen dock.
-fn tell_registers_of(out: Stdout, bench: Bench) {
-    let dock = bench.dock;
-    let chassis = bench.chassis;
+// Something of the chosen dock, where it is there.
+fn tell_of<F: Fn(Stdout, Controller)>(out: Stdout, bench: Bench, tell: F)
+    requires { F.IsAlwaysCallable tell }
+{
     if is_there(bench) {
-        tell_registers(out, record_at(chassis, dock));
+        tell(out, record_at(bench.chassis, bench.dock));
     } else {
-        tell_absent(out, dock);
-    }
-}
-
-// Its state as an image.
-fn tell_image_of(out: Stdout, bench: Bench) {
-    let dock = bench.dock;
-    let chassis = bench.chassis;
-    if is_there(bench) {
-        tell_image(out, record_at(chassis, dock));
-    } else {
-        tell_absent(out, dock);
+        tell_absent(out, bench.dock);
     }
 }
 
@@ -140,11 +110,11 @@ impl Bench {
     fn of(count: usize, address: u8) -> Bench
         ensures { result ≡ fresh_docks count address }
     {
-        let controller = Controller::fresh();
-        let records = [controller; MOST];
-        let chassis = Chassis { records, count };
         Bench {
-            chassis,
+            chassis: Chassis {
+                records: [Controller::fresh(); MOST],
+                count,
+            },
             dock: 0,
             address,
             levels: [AT_REST; MOST],
@@ -160,14 +130,11 @@ impl Bench {
     }
 
     // An order, with the word beside its verb.
-    #[tactic(auto, unfolding(crate::specs::Orders::obeyed, crate::specs::Orders::words_of, crate::specs::Orders::after_words))]
+    #[tactic(auto, unfolding(crate::specs::Orders::obeyed, crate::specs::Orders::words_of, crate::specs::Orders::after_words, crate::specs::Docks::levels_at))]
     pub(crate) fn obey(self, out: Stdout, order: Order, text: &[u8]) -> Bench
         ensures { result ≡ obeyed order text.now self }
     {
-        let chassis = self.chassis;
-        let dock = self.dock;
-        let levels = self.levels;
-        let here = levels_at(levels, dock);
+        let here = place_at(self.levels, self.dock, AT_REST);
         match order {
             Order::Event(event) => one(out, self, word_for(event)),
             Order::Pull(inputs) => one(out, self, word_for(Event::Pins(pulled(here, inputs)))),
@@ -182,19 +149,14 @@ impl Bench {
             Order::Read { register, more } => read(out, self, register, more),
             Order::Address(address) => {
                 tell_address(out, address);
-                Bench {
-                    chassis,
-                    dock,
-                    address,
-                    levels,
-                }
+                Bench { address, ..self }
             }
             Order::Outputs => {
-                tell_every(out, chassis);
+                tell_every(out, self.chassis);
                 self
             }
             Order::Registers => {
-                tell_registers_of(out, self);
+                tell_of(out, self, tell_registers);
                 self
             }
             Order::Help => {
@@ -202,22 +164,20 @@ impl Bench {
                 self
             }
             Order::Save => {
-                tell_image_of(out, self);
+                tell_of(out, self, tell_image);
                 self
             }
             Order::Load => load(out, self, text),
             Order::Name(number) => name(out, self, number),
             Order::Docks(count) => {
                 tell_docks(out, count);
-                Bench::of(count as usize, self.address)
+                Bench::of(usize::from(count), self.address)
             }
             Order::Choose(number) => {
-                tell_choice(out, number, is_on(chassis, number));
+                tell_choice(out, number, is_on(self.chassis, number));
                 Bench {
-                    chassis,
                     dock: number,
-                    address: self.address,
-                    levels,
+                    ..self
                 }
             }
         }

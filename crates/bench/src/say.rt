@@ -1,37 +1,27 @@
 // Texts on standard output.
-use hexes::digit;
+use std::fmt::Display;
 use std::io::Stdout;
 
 // Answers whether it was taken: it is not where nobody reads any more.
-pub(crate) fn said(out: Stdout, text: &[u8]) -> bool {
-    out.write_all(text).is_ok()
+pub(crate) fn said(out: Stdout, text: impl Display + Drop) -> bool {
+    print!(out; "{text}").is_ok()
 }
 
-pub(crate) fn say(out: Stdout, text: &[u8]) {
+pub(crate) fn say(out: Stdout, text: impl Display + Drop) {
     said(out, text);
 }
 
-pub(crate) fn say_if(out: Stdout, yes: bool, text: &[u8]) {
-    if yes {
-        say(out, text);
-    }
+// Characters as they were typed, which may be no text.
+pub(crate) fn say_typed(out: Stdout, line: &[u8]) {
+    let _ = out.write_all(line);
 }
 
-pub(crate) fn say_either(out: Stdout, yes: bool, one: &[u8], other: &[u8]) {
-    if yes {
-        say(out, one);
-    } else {
-        say(out, other);
-    }
+// A part of a text, where it is so.
+pub(crate) fn part(yes: bool, text: &'static str) -> &'static str {
+    if yes { text } else { "" }
 }
 
-// Two hex digits.
-pub(crate) fn say_byte(out: Stdout, n: u16) {
-    let text = [digit(n / 16), digit(n)];
-    say(out, &text);
-}
-
-// Decimal.
-pub(crate) fn say_count(out: Stdout, n: u64) {
-    let _ = print!(out; "{n}");
+// The end of a word that is counted.
+pub(crate) fn plural(count: u64) -> &'static str {
+    part(count != 1, "s")
 }

@@ -13,7 +13,7 @@ use std::io::Stdout;
 pub(crate) fn word_for(event: Event) -> u16
     ensures { result ≡ word_for event }
 {
-    event::pack(event).word()
+    event::packed_word(event)
 }
 
 // One word, by the chassis's call with the number of the chosen dock.
@@ -21,20 +21,13 @@ pub(crate) fn word_for(event: Event) -> u16
 pub(crate) fn step(bench: Bench, word: u16) -> Sent
     ensures { result ≡ sent_of bench word }
 {
-    let dock = bench.dock;
-    let before = bench.levels;
-    let chassis = bench.chassis;
-    let stepped = chassis.step(dock as usize, word);
-    let next = stepped.chassis;
-    let told = stepped.told;
-    let answer = told.answer;
-    let levels = levels_after(answer, word, dock, before);
+    let stepped = bench.chassis.step(usize::from(bench.dock), word);
+    let answer = stepped.told.answer;
     Sent {
         bench: Bench {
-            chassis: next,
-            dock,
-            address: bench.address,
-            levels,
+            chassis: stepped.chassis,
+            levels: levels_after(answer, word, bench.dock, bench.levels),
+            ..bench
         },
         answer,
     }
@@ -46,8 +39,7 @@ pub(crate) fn send(out: Stdout, bench: Bench, word: u16) -> Sent
 {
     tell_word(out, word);
     let sent = step(bench, word);
-    let answer = sent.answer;
-    tell_answer(out, answer, bench, word);
+    tell_answer(out, sent.answer, bench, word);
     sent
 }
 
@@ -59,8 +51,6 @@ pub(crate) fn sent(out: Stdout, bench: Bench, event: Event) -> Bench
 
 // What comes after the events of a line: their end, and what they changed.
 pub(crate) fn tell_end(out: Stdout, before: Bench, after: Bench) {
-    let old = before.chassis;
-    let new = after.chassis;
-    say(out, b"\n");
-    tell_all_changed(out, old, new);
+    say(out, "\n");
+    tell_all_changed(out, before.chassis, after.chassis);
 }

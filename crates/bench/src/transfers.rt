@@ -1,14 +1,13 @@
 // Whole writes and reads, of one byte or of several, event by event.
-ghost use Rattle.std.specs.Prelude.{◌≡◌, map, ◌∷◌, length, ◌≤◌};
+ghost use Rattle.std.specs.Prelude.{◌≡◌, map, ◌∷◌};
 ghost use Rattle.script.specs.Arguments.{further_values};
 ghost use Rattle.bench.specs.Orders.{byte_word, write_words, take_words, read_words, after_words};
 
-use crate::bays::kind_of;
+use crate::Bench;
 use crate::every::answering;
-use crate::input::put;
 use crate::registers::tell_taken;
 use crate::sending::{send, sent, tell_end, word_for};
-use crate::{Bench, Took};
+use arrayvec::ArrayVec;
 use bus::Reply;
 use chassis::Answer;
 use event::Event;
@@ -23,10 +22,8 @@ fn give(out: Stdout, bench: Bench, more: u8, text: &[u8]) -> Bench
     ensures { result ≡ after_words bench (map byte_word (further_values text.now more)) }
 {
     let mut state = bench;
-    let mut i: u8 = 0;
-    while i < more {
+    for i in 0..more {
         state = sent(out, state, Event::Byte(script::further_value(text, i)));
-        i += 1;
     }
     state
 }
@@ -53,41 +50,27 @@ pub(crate) fn write(
     next
 }
 
-// Puts the byte that was driven, where one was, at a place of the buffer, and answers the next place.
-fn keep(given: &mut [u8], at: usize, answer: Answer) -> usize
-    requires { at ≤ length given.old }
-    ensures { result ≤ length given.new }
-{
-    let Answer::Done(reply) = answer else {
-        return at;
-    };
-    let Reply::Driven(value) = reply else {
-        return at;
-    };
-    put(given, at, value)
+// Keeps the byte that was driven, where one was.
+fn keep(given: &mut ArrayVec<u8, REGISTERS>, answer: Answer) {
+    if let Ok(Reply::Driven(value)) = answer {
+        let _ = given.try_push(value);
+    }
 }
 
-// The TAKEs of a read, the last without ACK; the bytes that were driven come into the buffer.
+// The TAKEs of a read, the last without ACK; the bytes that were driven are kept.
 #[tactic(auto, using(crate::proofs::InTurn::one_after_the_other, crate::proofs::InTurn::once_more), unfolding(crate::specs::Orders::after_words))]
-fn take(out: Stdout, bench: Bench, more: u8, given: &mut [u8]) -> Took
-    ensures bench_value { result.bench ≡ after_words bench (take_words more) }
-    ensures count_in_bounds { result.count ≤ length given.new }
+fn take(out: Stdout, bench: Bench, more: u8, given: &mut ArrayVec<u8, REGISTERS>) -> Bench
+    ensures { result ≡ after_words bench (take_words more) }
 {
     let mut state = bench;
-    let mut count = 0;
-    let mut i: u8 = 0;
-    while i < more {
+    for _ in 0..more {
         let taken = send(out, state, word_for(Event::Take(true)));
-        let answer = taken.answer;
+        keep(given, taken.answer);
         state = taken.bench;
-        count = keep(given, count, answer);
-        i += 1;
     }
     let last = send(out, state, word_for(Event::Take(false)));
-    let bench = last.bench;
-    let answer = last.answer;
-    let count = keep(given, count, answer);
-    Took { bench, count }
+    keep(given, last.answer);
+    last.bench
 }
 
 // A whole read, and what the bytes say that were driven.
@@ -100,13 +83,10 @@ pub(crate) fn read(out: Stdout, bench: Bench, register: u8, more: u8) -> Bench
     let chosen = sent(out, addressed, Event::Byte(register));
     let again = sent(out, chosen, Event::Start);
     let decided = sent(out, again, Event::Byte(bench.address / 2 * 2 + 1));
-    let mut given = [0u8; REGISTERS];
-    let took = take(out, decided, more, &mut given);
-    let next = took.bench;
-    let count = took.count;
-    let chassis = next.chassis;
-    let kind = kind_of(answering(chassis, bench.address));
+    let mut given = ArrayVec::new();
+    let next = take(out, decided, more, &mut given);
+    let kind = answering(next.chassis, bench.address).machine.kind;
     tell_end(out, bench, next);
-    tell_taken(out, kind, register, &given[..count]);
+    tell_taken(out, kind, register, given.as_slice());
     next
 }

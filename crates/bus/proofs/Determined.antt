@@ -4,7 +4,6 @@ use mathlib.Core.Path.{◌≡◌, ◌∙◌, sym}
 use Rattle.kind.specs.declared.Kind.{Kind}
 use Rattle.bus.specs.declared.Progress.{Progress}
 use Rattle.bus.specs.declared.Heard.{Heard}
-use Rattle.bus.specs.declared.Holds.{Holds}
 use Rattle.bus.specs.declared.Reply.{Reply}
 use Rattle.bus.proofs.own_write.Reads as own_write_reads
 use Rattle.bus.proofs.own_read.Reads as own_read_reads
@@ -16,6 +15,7 @@ use Rattle.bus.proofs.Progress.byte.Reads as heard_reads
 use Rattle.bus.proofs.Progress.held.Reads as held_reads
 use Rattle.bus.proofs.Reply.number.Reads as number_reads
 use Rattle.bus.proofs.Reply.byte.Reads as byte_Reads
+use Rattle.std.specs.Prelude.{Option}
 
 pub own_write_determined : (x r s : ℕ) → own_write_reads.Post tt (x, tt) r (x, tt) → own_write_reads.Post tt (x, tt) s (x, tt) → r ≡ s
 own_write_determined x r s p q = p ∙ sym q
@@ -49,7 +49,7 @@ pub heard_determined :
 heard_determined x k straps b r s p q = p ∙ sym q
 
 pub held_determined :
-    (x : Progress) (k : Kind) (r s : Holds) → held_reads.Post tt (x, (k, tt)) r (x, (k, tt)) → held_reads.Post tt (x, (k, tt)) s (x, (k, tt)) → r ≡ s
+    (x : Progress) (k : Kind) (r s : Option ℕ) → held_reads.Post tt (x, (k, tt)) r (x, (k, tt)) → held_reads.Post tt (x, (k, tt)) s (x, (k, tt)) → r ≡ s
 held_determined x k r s p q = p ∙ sym q
 
 pub number_determined : (x : Reply) (r s : ℕ) → number_reads.Post tt (x, tt) r (x, tt) → number_reads.Post tt (x, tt) s (x, tt) → r ≡ s

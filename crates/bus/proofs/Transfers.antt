@@ -10,8 +10,8 @@ use Rattle.kind.specs.declared.Kind.TheVariants.{First, Second}
 use Rattle.bus.specs.declared.Progress.{Progress}
 use Rattle.bus.specs.declared.Progress.TheVariants.{Idle, Opened, Addressed, Register, Data, Again, Reading, Writing, Sending}
 use Rattle.bus.specs.declared.Heard.TheVariants.{On, Write, Read, End}
-use Rattle.bus.specs.declared.Holds.TheVariants.{Byte, Nothing}
 use Rattle.bus.specs.Progress.{own_write_byte, own_read_byte, started_known, heard_known, holding, next_register, known_to, started, heard, held_known, held_by}
+use Rattle.std.specs.Prelude.{None, Some}
 
 -- The number rises by one; FFh rises to 00h.
 pub record Rises : Type 0 where
@@ -46,7 +46,7 @@ pub record FirstKind (straps n v : ℕ) : Type 0 where
       (b : ℕ) → b ≢ own_write_byte straps → b ≢ own_read_byte straps
       → map (heard First straps b) (all_progress n v) ≡ End ∷ End ∷ On (Register b) ∷ On (Data n b) ∷ End ∷ End ∷ End ∷ End ∷ End ∷ []
   pub holds : holding First n v ≡ Reading v
-  pub held : map (held_by First) (all_progress n v) ≡ Nothing ∷ Nothing ∷ Nothing ∷ Nothing ∷ Nothing ∷ Nothing ∷ Byte v ∷ Nothing ∷ Nothing ∷ []
+  pub held : map (held_by First) (all_progress n v) ≡ None ∷ None ∷ None ∷ None ∷ None ∷ None ∷ Some v ∷ None ∷ None ∷ []
 
 pub first_kind : (straps n v : ℕ) → FirstKind straps n v
 unfolding known_to started started_known heard heard_known holding held_by held_known
@@ -75,7 +75,7 @@ pub record SecondKind (straps n v : ℕ) : Type 0 where
       (b : ℕ) → b ≢ own_write_byte straps → b ≢ own_read_byte straps
       → map (heard Second straps b) (all_progress n v) ≡ End ∷ End ∷ On (Register b) ∷ Write n b ∷ End ∷ End ∷ End ∷ Write n b ∷ End ∷ []
   pub holds : holding Second n v ≡ Sending n v
-  pub held : map (held_by Second) (all_progress n v) ≡ Nothing ∷ Nothing ∷ Nothing ∷ Nothing ∷ Nothing ∷ Nothing ∷ Nothing ∷ Nothing ∷ Byte v ∷ []
+  pub held : map (held_by Second) (all_progress n v) ≡ None ∷ None ∷ None ∷ None ∷ None ∷ None ∷ None ∷ None ∷ Some v ∷ []
 
 pub second_kind : (straps n v : ℕ) → SecondKind straps n v
 unfolding known_to started started_known heard heard_known holding held_by held_known

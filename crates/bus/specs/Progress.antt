@@ -1,6 +1,7 @@
 -- A bus command in progress, in each kind of controller (document 01, "Bus commands"; document 001, Tables 3 and 4; document 03, "Bus
 -- transfers" and "State").
 use Rattle.std.specs.Prelude.{ℕ, ◌+◌, ◌*◌, ◌%◌, cond, eqb}
+use Rattle.std.specs.Prelude.{Option, Some, None}
 use Rattle.bits.specs.Straps.{smb_a}
 use Rattle.kind.specs.declared.Kind.{Kind}
 use Rattle.kind.specs.declared.Kind.TheVariants.{First, Second}
@@ -8,8 +9,6 @@ use Rattle.bus.specs.declared.Progress.{Progress}
 use Rattle.bus.specs.declared.Progress.TheVariants.{Idle, Opened, Addressed, Register, Data, Again, Reading, Writing, Sending}
 use Rattle.bus.specs.declared.Heard.{Heard}
 use Rattle.bus.specs.declared.Heard.TheVariants.{On, Write, Read, End}
-use Rattle.bus.specs.declared.Holds.{Holds}
-use Rattle.bus.specs.declared.Holds.TheVariants.{Byte, Nothing}
 
 -- Bus commands, and Bus transfers: the own address byte is 90h + 2 x SMB_A for writing, one more for reading, in both kinds.
 unfoldable pub own_write_byte : ℕ → ℕ
@@ -79,16 +78,16 @@ unfoldable pub heard : Kind → ℕ → ℕ → Progress → Heard
 heard kind straps b p = heard_known kind straps b (known_to kind p)
 
 -- The byte that an open read holds (document 02, request 7): from the own read byte on, and in the second kind from an ACKed TAKE on.
-unfoldable pub held_known : Progress → Holds
-held_known Idle = Nothing
-held_known Opened = Nothing
-held_known Addressed = Nothing
-held_known (Register r) = Nothing
-held_known (Data r v) = Nothing
-held_known (Again r) = Nothing
-held_known (Reading v) = Byte v
-held_known (Writing n) = Nothing
-held_known (Sending n v) = Byte v
+unfoldable pub held_known : Progress → Option ℕ
+held_known Idle = None
+held_known Opened = None
+held_known Addressed = None
+held_known (Register r) = None
+held_known (Data r v) = None
+held_known (Again r) = None
+held_known (Reading v) = Some v
+held_known (Writing n) = None
+held_known (Sending n v) = Some v
 
-unfoldable pub held_by : Kind → Progress → Holds
+unfoldable pub held_by : Kind → Progress → Option ℕ
 held_by kind p = held_known (known_to kind p)

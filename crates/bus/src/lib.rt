@@ -13,7 +13,7 @@ use kind::Kind;
 // How far the open command has come. In the first kind a write is START, own write byte, register byte, data byte, STOP;
 // a read is START, own write byte, register byte, START, own read byte, TAKE. In the second a write has any number of
 // data bytes, each a whole write at once, and a read any number of ACKed TAKEs before its NACKed one.
-#[derive(Clone, Copy)]
+#[derive(Clone, Copy, PartialEq, Eq)]
 pub enum Progress {
     // No command is open.
     Idle,
@@ -37,7 +37,7 @@ pub enum Progress {
 }
 
 // What a BYTE makes of a command.
-#[derive(Clone, Copy)]
+#[derive(Clone, Copy, PartialEq, Eq)]
 pub enum Heard {
     // It is the next one of a form: the command goes on.
     On(Progress),
@@ -49,17 +49,8 @@ pub enum Heard {
     End,
 }
 
-// What an open read holds.
-#[derive(Clone, Copy)]
-pub enum Holds {
-    // The byte for the next TAKE.
-    Byte(u8),
-    // No read is open.
-    Nothing,
-}
-
 // What the host sees of an event.
-#[derive(Clone, Copy)]
+#[derive(Clone, Copy, PartialEq, Eq)]
 pub enum Reply {
     // START, STOP, PINS, TICK, RESET and TIMEOUT have no reply.
     Nothing,
@@ -168,16 +159,15 @@ impl Progress {
         }
     }
 
-    // The byte that an open read holds for its next TAKE.
+    // The byte that an open read holds for its next TAKE; where none is open, none.
     #[tactic(auto, unfolding(crate::specs::Progress::held_known, crate::specs::Progress::held_by))]
-    pub fn held(self, kind: Kind) -> Holds
+    pub fn held(self, kind: Kind) -> Option<u8>
         ensures { result ≡ held_by kind self }
     {
         let command = self.known(kind);
         match command {
-            Progress::Reading(value) => Holds::Byte(value),
-            Progress::Sending { value, .. } => Holds::Byte(value),
-            _ => Holds::Nothing,
+            Progress::Reading(value) | Progress::Sending { value, .. } => Some(value),
+            _ => None,
         }
     }
 }
@@ -201,9 +191,7 @@ impl Reply {
         ensures { result ≡ reply_byte self }
     {
         match self {
-            Reply::Nothing => 0,
-            Reply::Ack => 0,
-            Reply::NoAck => 0,
+            Reply::Nothing | Reply::Ack | Reply::NoAck => 0,
             Reply::Driven(value) => value,
             Reply::NotDriven => 255,
         }

@@ -1,13 +1,13 @@
 -- Decimal digits: those that the library writes of a number are those of the definition; read again they give the number, and the first
 -- of them is 0 only for 0. Assumes nothing.
-use Prim.Native.Nat.{ℕ, zero, suc, ◌+◌, ◌-◌, ◌*◌, ◌/◌, ◌%◌, ◌^◌, ◌≤◌, ◌<◌}
+use Prim.Native.Nat.{ℕ, zero, suc, ◌+◌, ◌-◌, ◌*◌, ◌/◌, ◌%◌, ◌^◌, ◌<◌}
 use Prim.Native.Char.{code}
 use native.Mathlib.Omega.{arith}
 use native.Mathlib.Nat.{pow-suc}
 use mathlib.Core.Path.{◌≡◌, refl, ap, ◌∙◌}
 use mathlib.Core.Bool.{Bool, true, false, cond}
 use mathlib.Core.List.{List, [], ◌∷◌, ◌++◌}
-use lib.ListN.{length, get_or, length-append}
+use lib.ListN.{get_or}
 use lib.Dec.{ltb}
 use borrow.Author.Tests.{ltb-true, ltb-false}
 use Rattle.std.specs.Fmt.{decimal}
@@ -39,19 +39,6 @@ unfolding decimal_of
 same_decimal n l = digits_in 19 n (omega arith) l
 
 -- ---- what they say
-
-in_either : (k : ℕ) (b : Bool) (d : ℕ) (ds : List ℕ) → length ds ≤ suc k → length (cond b (d ∷ []) (ds ++ (d ∷ []))) ≤ suc (suc k)
-in_either k true d ds l = omega arith
-in_either k false d ds l = omega (arith, length-append ds (d ∷ []))
-
-in_most : (k n : ℕ) → length (decimal_in k n) ≤ suc k
-unfolding decimal_in
-in_most zero n = omega arith
-in_most (suc k) n = in_either k (ltb n 10) (last_digit n) (decimal_in k (n / 10)) (in_most k (n / 10))
-
-pub decimal_most : (n : ℕ) → length (decimal_of n) ≤ 20
-unfolding decimal_of
-decimal_most n = in_most 19 n
 
 -- Digits read as a person reads them, after a number that stands in front.
 unfoldable pub read_from : ℕ → List ℕ → ℕ

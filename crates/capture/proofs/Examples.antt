@@ -1,14 +1,12 @@
 -- Single cases, by computing: a START's text in both forms, when a TICK is due and where it stands, and what arguments mean; and
 -- `words` is asked for by that word alone. Assumes nothing.
 use Prim.Native.Nat.{ℕ}
-use Prim.Native.Char.{code}
 use mathlib.Core.Path.{◌≡◌, refl}
-use mathlib.Core.Bool.{Bool, true, false, cond, ◌&&◌, and-eq-true_iff}
+use mathlib.Core.Bool.{Bool, true, false, cond}
 use native.Mathlib.Omega.{arith}
 use mathlib.Core.List.{List, [], ◌∷◌, map}
-use lib.ListN.{length}
-use lib.Dec.{eqb}
-use borrow.Author.Tests.{eqb-true}
+use Rattle.std.proofs.Common.{Ok, Err, Option, Some, None}
+use Rattle.std.proofs.lemmas.Slice.Eq.{bytes_eq-Decides}
 use Rattle.pairs.specs.Pairs.{bytes_of}
 use Rattle.event.specs.Words.{word_of, is_reset_word, packed, straps_of, unpacked}
 use Rattle.wire.specs.Record.{fresh_wire}
@@ -30,14 +28,15 @@ use Rattle.dock.specs.Step.{takes, step_of}
 use Rattle.hexes.specs.Digit.{digit_for}
 use Rattle.lines.specs.Line.{line_of}
 use Rattle.lines.specs.Text.{characters}
-use Rattle.script.specs.Arguments.{digit_of, is_octet, octet_of, word_of as typed_word}
+use Rattle.script.specs.Arguments.{digit_of, octet_of, word_of as typed_word}
 use Rattle.capture.specs.Number.{decimal_in, decimal_of}
 use Rattle.capture.specs.Rows.{row, tick_at, words_at, rows_of, row_line, lines_of, text_of}
 use Rattle.capture.specs.Pieces.{header_for, capture_rows, capture_text}
-use Rattle.capture.specs.Arguments.{asks_words, wish_of}
+use Rattle.capture.specs.Arguments.{asks_words, wish_of_number, wish_of}
 use Rattle.capture.specs.Examples.{start_samples, start_lines, start_words, Case, arguments}
 use Rattle.capture.specs.declared.rows.Form.TheVariants.{Lines, Words}
 use Rattle.capture.specs.declared.arguments.Wish.TheVariants as wish
+use Rattle.capture.specs.declared.arguments.Fault.TheVariants.{NoReset}
 
 -- ---- a START
 
@@ -66,39 +65,24 @@ ticks = record { none_before = refl; first = refl; none_after = refl; second = r
 -- ---- arguments
 
 pub arguments_hold : map (λ (a : Case). wish_of a.typed) arguments ≡ map (λ (a : Case). a.meant) arguments
-unfolding arguments wish_of asks_words typed_word octet_of is_octet digit_of
+unfolding arguments wish_of asks_words typed_word octet_of digit_of
 arguments_hold = refl
 
 -- `words` alone asks for bare words,
-asked_length : (t : List ℕ) → asks_words t ≡ true → length t ≡ 5
-unfolding asks_words
-asked_length t h = eqb-true (length t) 5 ((and-eq-true_iff (eqb (length t) 5) _).0 h).0
-
-five : (a b c d e : ℕ) → asks_words (a ∷ b ∷ c ∷ d ∷ e ∷ []) ≡ true → a ∷ b ∷ c ∷ d ∷ e ∷ [] ≡ characters "words"
-unfolding asks_words
-five a b c d e h =
-    let s = (and-eq-true_iff (((eqb a (code "w") && eqb b (code "o")) && eqb c (code "r")) && eqb d (code "d")) (eqb e (code "s"))).0 h in
-    let d' = (and-eq-true_iff ((eqb a (code "w") && eqb b (code "o")) && eqb c (code "r")) (eqb d (code "d"))).0 s.0 in
-    let r = (and-eq-true_iff (eqb a (code "w") && eqb b (code "o")) (eqb c (code "r"))).0 d'.0 in
-    let w = (and-eq-true_iff (eqb a (code "w")) (eqb b (code "o"))).0 r.0 in
-    rw (eqb-true a _ w.0, eqb-true b _ w.1, eqb-true c _ r.1, eqb-true d _ d'.1, eqb-true e _ s.1)
-
 pub words_only : (t : List ℕ) → asks_words t ≡ true → t ≡ characters "words"
-words_only [] h = absurd (omega (arith, asked_length [] h))
-words_only (a ∷ []) h = absurd (omega (arith, asked_length (a ∷ []) h))
-words_only (a ∷ b ∷ []) h = absurd (omega (arith, asked_length (a ∷ b ∷ []) h))
-words_only (a ∷ b ∷ c ∷ []) h = absurd (omega (arith, asked_length (a ∷ b ∷ c ∷ []) h))
-words_only (a ∷ b ∷ c ∷ d ∷ []) h = absurd (omega (arith, asked_length (a ∷ b ∷ c ∷ d ∷ []) h))
-words_only (a ∷ b ∷ c ∷ d ∷ e ∷ []) h = five a b c d e h
-words_only (a ∷ b ∷ c ∷ d ∷ e ∷ x ∷ t) h = absurd (omega (arith, asked_length (a ∷ b ∷ c ∷ d ∷ e ∷ x ∷ t) h))
+unfolding asks_words
+words_only t h = (bytes_eq-Decides t (characters "words")).0 h
 
 -- and no word but a RESET's is put in front.
-by_kind : (a g k : Bool) (v w : ℕ) → is_reset_word v ≡ k → cond a wish.Words (cond g (cond k (wish.Reset v) wish.NoReset) wish.Unclear) ≡ wish.Reset w → is_reset_word w ≡ true
-by_kind true g k v w p q = absurd (let z : ◌≡◌ {A = ℕ} 0 1 = cc in omega arith)
-by_kind false true true v w p q = let same : v ≡ w = cc in rw (← same) p
-by_kind false true false v w p q = absurd (let z : ◌≡◌ {A = ℕ} 0 1 = cc in omega arith)
-by_kind false false k v w p q = absurd (let z : ◌≡◌ {A = ℕ} 0 1 = cc in omega arith)
+by_kind : (a : Bool) (n : Option ℕ) (w : ℕ) → cond a (Ok wish.Words) (wish_of_number n) ≡ Ok (wish.Reset w) → is_reset_word w ≡ true
+by_kind true n w q = absurd (let z : ◌≡◌ {A = ℕ} 0 1 = cc in omega arith)
+by_kind false None w q = absurd (let z : ◌≡◌ {A = ℕ} 0 1 = cc in omega arith)
+by_kind false (Some v) w q = go (is_reset_word v) refl q
+  where
+    go : (k : Bool) → is_reset_word v ≡ k → cond k (Ok (wish.Reset v)) (Err NoReset) ≡ Ok (wish.Reset w) → is_reset_word w ≡ true
+    go true p e = let same : v ≡ w = cc in rw (← same) p
+    go false p e = absurd (let z : ◌≡◌ {A = ℕ} 0 1 = cc in omega arith)
 
-pub resets_only : (t : List ℕ) (w : ℕ) → wish_of t ≡ wish.Reset w → is_reset_word w ≡ true
+pub resets_only : (t : List ℕ) (w : ℕ) → wish_of t ≡ Ok (wish.Reset w) → is_reset_word w ≡ true
 unfolding wish_of
-resets_only t w e = by_kind (asks_words t) (typed_word t).good (is_reset_word (typed_word t).value) (typed_word t).value w refl e
+resets_only t w e = by_kind (asks_words t) (typed_word t) w e

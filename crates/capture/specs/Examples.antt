@@ -1,10 +1,13 @@
 -- What the definitions come to in single cases (document 02, request 7), and what a capture's text is read as.
-use Rattle.std.specs.Prelude.{ℕ, List, [], ◌∷◌, ◌++◌}
-use Rattle.dock.specs.declared.Answer.{Answer}
+use Rattle.std.specs.Prelude.{ℕ, List, [], ◌∷◌, ◌++◌, Ok, Err}
+use Rattle.std.specs.declared.result.Result.{Result}
 use Rattle.lines.specs.Text.{characters}
 use Rattle.capture.specs.Rows.{Row, row_line}
 use Rattle.capture.specs.declared.arguments.Wish.{Wish}
-use Rattle.capture.specs.declared.arguments.Wish.TheVariants.{Words, Reset, NoReset, Unclear}
+use Rattle.capture.specs.declared.arguments.Wish.TheVariants.{Words, Reset}
+use Rattle.capture.specs.declared.arguments.Fault.{Fault}
+use Rattle.capture.specs.declared.arguments.Fault.TheVariants.{NoReset, Unclear}
+use Rattle.dock.specs.Answers.{Answer}
 
 -- ---- rows with the answers to their words
 
@@ -28,17 +31,17 @@ start_words = 0xC0 ∷ 0xFF ∷ 0x00 ∷ 0x00 ∷ []
 
 pub record Case : Type 0 where
   pub typed : List ℕ
-  pub meant : Wish
+  pub meant : Result Wish Fault
 
 unfoldable pub arguments : List Case
 arguments =
-    record { typed = characters "words"; meant = Words }
-    ∷ record { typed = characters "C0BF"; meant = Reset 0xC0BF }
-    ∷ record { typed = characters "d0ff"; meant = Reset 0xD0FF }
-    ∷ record { typed = characters "BFFF"; meant = NoReset }
-    ∷ record { typed = characters "E000"; meant = NoReset }
-    ∷ record { typed = characters "C0F"; meant = Unclear }
-    ∷ record { typed = characters "C0FF0"; meant = Unclear }
-    ∷ record { typed = characters "Words"; meant = Unclear }
-    ∷ record { typed = []; meant = Unclear }
+    record { typed = characters "words"; meant = Ok Words }
+    ∷ record { typed = characters "C0BF"; meant = Ok (Reset 0xC0BF) }
+    ∷ record { typed = characters "d0ff"; meant = Ok (Reset 0xD0FF) }
+    ∷ record { typed = characters "BFFF"; meant = Err NoReset }
+    ∷ record { typed = characters "E000"; meant = Err NoReset }
+    ∷ record { typed = characters "C0F"; meant = Err Unclear }
+    ∷ record { typed = characters "C0FF0"; meant = Err Unclear }
+    ∷ record { typed = characters "Words"; meant = Err Unclear }
+    ∷ record { typed = []; meant = Err Unclear }
     ∷ []

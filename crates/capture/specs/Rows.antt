@@ -1,18 +1,18 @@
 -- What a capture gives (document 02, request 7): words, each with the number of the last sample heard, and their text.
-use Rattle.std.specs.Prelude.{ℕ, ◌+◌, ◌%◌, cond, List, [], ◌∷◌, ◌++◌, map, eqb}
+use Rattle.std.specs.Prelude.{ℕ, ◌+◌, ◌%◌, cond, List, [], ◌∷◌, ◌++◌, map, eqb, Option}
 use Rattle.pairs.specs.Pairs.{bytes_of}
 use Rattle.event.specs.Words.{word_of}
 use Rattle.event.specs.declared.Event.TheVariants.{Tick}
 use Rattle.wire.specs.Hear.{hear_of, spelled}
 use Rattle.wire.specs.declared.Wire.{Wire}
-use Rattle.wire.specs.declared.Given.{Given}
 use Rattle.dock.specs.Step.{step_of}
 use Rattle.dock.specs.declared.Controller.{Controller}
-use Rattle.dock.specs.declared.Answer.{Answer}
 use Rattle.lines.specs.Line.{line_of}
 use Rattle.capture.specs.Number.{decimal_of}
 use Rattle.capture.specs.declared.rows.Form.{Form}
 use Rattle.capture.specs.declared.rows.Form.TheVariants.{Lines, Words}
+use Rattle.dock.specs.Answers.{Answer}
+use Rattle.event.specs.declared.Event.{Event}
 
 pub record Row : Type 0 where
   pub number : ℕ
@@ -37,7 +37,7 @@ unfoldable pub tick_at : ℕ → List ℕ
 tick_at n = cond (eqb (n % TICK_SAMPLES) 0) (word_of Tick ∷ []) []
 
 -- With the sample of a number: the word that it gives, and then the TICK.
-unfoldable pub words_at : Given → ℕ → List ℕ
+unfoldable pub words_at : Option Event → ℕ → List ℕ
 words_at g n = spelled g ++ tick_at n
 
 -- Samples are counted from 1.

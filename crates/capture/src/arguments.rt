@@ -1,66 +1,56 @@
 // What the arguments ask for, in any order: four hex digits for the RESET in front, and `words` for the bare words.
 ghost use Rattle.std.specs.Prelude.{◌≡◌};
-ghost use Rattle.capture.specs.Arguments.{asks_words, wish_of, plain_setup, faulty, asked_words, asked_reset, asked};
+ghost use Rattle.capture.specs.Arguments.{wish_of, plain_setup, front_of, faulty, asked_words, asked_reset, asked};
 
 use crate::rows::Form;
+use std::fmt;
 
 // One argument.
 #[derive(Clone, Copy)]
 pub enum Wish {
     Words,
     Reset(u16),
+}
+
+// What is wrong with an argument.
+#[derive(Clone, Copy)]
+pub enum Fault {
     // A word that is no RESET's.
     NoReset,
     Unclear,
 }
 
-// What is wrong with the arguments.
-#[derive(Clone, Copy)]
-pub enum Fault {
-    NoFault,
-    NoReset,
-    Unclear,
+impl fmt::Display for Fault {
+    fn fmt<W: fmt::Write>(&self, f: &mut fmt::Formatter<W>) -> fmt::Result {
+        f.write_str(match self {
+            Fault::NoReset => "capture: a RESET's word is C000 to DFFF",
+            Fault::Unclear => {
+                "usage: capture [WORD] [words]   (WORD: the RESET in front, four hex digits; C0FF by default)"
+            }
+        })
+    }
 }
 
-// All arguments so far.
+// All arguments so far. A fault stays in it, since those behind it may have a fault of their own, and the last is told.
 #[derive(Clone, Copy)]
 pub struct Setup {
     pub form: Form,
-    pub reset: u16,
-    // The RESET's word was an argument.
-    pub named: bool,
-    pub fault: Fault,
+    // The RESET's word, where it was an argument.
+    pub reset: Option<u16>,
+    pub fault: Option<Fault>,
 }
 
-#[tactic(auto, unfolding(crate::specs::Arguments::asks_words))]
-fn asks_words(text: &[u8]) -> bool
-    ensures { result ≡ asks_words text.now }
-{
-    if text.len() != 5 {
-        return false;
-    }
-    (text[0] == b'w')
-        & (text[1] == b'o')
-        & (text[2] == b'r')
-        & (text[3] == b'd')
-        & (text[4] == b's')
-}
-
-#[tactic(auto, unfolding(crate::specs::Arguments::wish_of))]
-pub(crate) fn wished(text: &[u8]) -> Wish
+#[tactic(auto, unfolding(crate::specs::Arguments::wish_of, crate::specs::Arguments::asks_words))]
+pub(crate) fn wished(text: &[u8]) -> Result<Wish, Fault>
     ensures { result ≡ wish_of text.now }
 {
-    if asks_words(text) {
-        return Wish::Words;
+    if text == b"words".as_slice() {
+        return Ok(Wish::Words);
     }
-    let word = script::word(text);
-    if !word.good {
-        return Wish::Unclear;
-    }
-    if event::resets(word.value) {
-        Wish::Reset(word.value)
-    } else {
-        Wish::NoReset
+    match script::word(text) {
+        Some(word) if event::resets(word) => Ok(Wish::Reset(word)),
+        Some(_) => Err(Fault::NoReset),
+        None => Err(Fault::Unclear),
     }
 }
 
@@ -72,21 +62,24 @@ impl Setup {
     {
         Setup {
             form: Form::Lines,
-            reset: 0xC0FF,
-            named: false,
-            fault: Fault::NoFault,
+            reset: None,
+            fault: None,
         }
+    }
+
+    // The RESET in front.
+    pub fn front(self) -> u16
+        ensures { result ≡ front_of self }
+    {
+        self.reset.unwrap_or(0xC0FF)
     }
 
     fn faulty(self, fault: Fault) -> Setup
         ensures { result ≡ faulty self fault }
     {
-        let form = self.form;
         Setup {
-            form,
-            reset: self.reset,
-            named: self.named,
-            fault,
+            fault: Some(fault),
+            ..self
         }
     }
 
@@ -94,45 +87,36 @@ impl Setup {
     fn asked_words(self) -> Setup
         ensures { result ≡ asked_words self self.form }
     {
-        let form = self.form;
-        let Form::Lines = form else {
-            return self.faulty(Fault::Unclear);
-        };
-        let fault = self.fault;
-        Setup {
-            form: Form::Words,
-            reset: self.reset,
-            named: self.named,
-            fault,
+        match self.form {
+            Form::Lines => Setup {
+                form: Form::Words,
+                ..self
+            },
+            Form::Words => self.faulty(Fault::Unclear),
         }
     }
 
     fn asked_reset(self, word: u16) -> Setup
-        ensures { result ≡ asked_reset self word self.named }
+        ensures { result ≡ asked_reset self word self.reset }
     {
-        if self.named {
-            return self.faulty(Fault::Unclear);
-        }
-        let form = self.form;
-        let fault = self.fault;
-        Setup {
-            form,
-            reset: word,
-            named: true,
-            fault,
+        match self.reset {
+            None => Setup {
+                reset: Some(word),
+                ..self
+            },
+            Some(_) => self.faulty(Fault::Unclear),
         }
     }
 
     // One argument more.
     #[tactic(auto, unfolding(crate::specs::Arguments::asked))]
-    pub fn asked(self, wish: Wish) -> Setup
+    pub fn asked(self, wish: Result<Wish, Fault>) -> Setup
         ensures { result ≡ asked self wish }
     {
         match wish {
-            Wish::Words => self.asked_words(),
-            Wish::Reset(word) => self.asked_reset(word),
-            Wish::NoReset => self.faulty(Fault::NoReset),
-            Wish::Unclear => self.faulty(Fault::Unclear),
+            Ok(Wish::Words) => self.asked_words(),
+            Ok(Wish::Reset(word)) => self.asked_reset(word),
+            Err(fault) => self.faulty(fault),
         }
     }
 }

@@ -1,18 +1,17 @@
 // A number as decimal digits.
-ghost use Rattle.std.specs.Prelude.{◌≤◌, ◌≡◌, length};
-ghost use Rattle.lines.specs.Text.{written};
+ghost use Rattle.std.specs.Prelude.{◌+◌, ◌≤◌, ◌≡◌, ◌++◌, length};
+ghost use Rattle.lines.specs.Text.{PAGE};
 ghost use Rattle.capture.specs.Number.{decimal_of};
 
 use itoa::Buffer;
-use lines::text::copy;
+use lines::text::{Page, put};
 
-// The digits, without leading zeros, at the start of the buffer. Answers how many they are.
-#[tactic(auto, using(crate::proofs::Digits::same_decimal, crate::proofs::Digits::decimal_most))]
-pub(crate) fn decimal(n: u64, output: &mut [u8]) -> usize
-    requires { 20 ≤ length output.old }
-    ensures value { result ≡ length (decimal_of n) }
-    ensures output_after { output.new ≡ written (decimal_of n) output.old }
+// The digits, without leading zeros.
+#[tactic(auto, using(crate::proofs::Digits::same_decimal))]
+pub(crate) fn decimal(n: u64, page: &mut Page)
+    requires { length page.old.items + length (decimal_of n) ≤ PAGE }
+    ensures { page.new.items ≡ page.old.items ++ decimal_of n }
 {
     let mut buffer = Buffer::new();
-    copy(buffer.format(n).as_bytes(), output)
+    put(buffer.format(n).as_bytes(), page);
 }

@@ -20,13 +20,13 @@ use Rattle.dock.specs.Shared.{standing_of}
 use Rattle.dock.specs.declared.Controller.{Controller}
 use Rattle.dock.specs.declared.Stepped.{Stepped}
 use Rattle.dock.proofs.Sharing.{passed_over, silent_outputs}
-use Rattle.chassis.specs.declared.Verdict.{Verdict}
-use Rattle.chassis.specs.declared.Verdict.TheVariants.{Sent, Refused}
 use Rattle.chassis.specs.Judge.{standings, verdict_of}
 use Rattle.chassis.specs.Chassis.{goes_to, record_at, reply_at, records_from, replies_from, shown, four, records_by, records_of, told_by, told_of}
 use Rattle.chassis.specs.Refusals.{standing_at}
 use Rattle.chassis.proofs.Places.{fit_in_lem}
 use Rattle.chassis.proofs.Accepting.{Accepts, accepts, at_most_four}
+use Rattle.chassis.specs.declared.Refusal.{Refusal}
+use Rattle.std.specs.Prelude.{Err, Ok, Result}
 
 -- ---- the statement: what is at each place after an accepted event
 
@@ -88,9 +88,9 @@ pub records_length : (cs : List Controller) (n w : ℕ) → length (records_of c
 unfolding records_by
 records_length cs n w = go (verdict_of cs n w)
   where
-    go : (v : Verdict) → length (records_by v n w cs) ≡ length cs
-    go (Sent e) = from_length e n w 0 cs
-    go (Refused x) = refl
+    go : (v : Result Event Refusal) → length (records_by v n w cs) ≡ length cs
+    go (Ok e) = from_length e n w 0 cs
+    go (Err x) = refl
 
 -- ---- four sets of outputs
 
@@ -120,7 +120,7 @@ not_reset Timeout n i (inr d) g = refl
 
 -- ---- so it is at each place
 
-pub at_each_place : (cs : List Controller) (n w : ℕ) (e : Event) (i : ℕ) (d : Controller) → verdict_of cs n w ≡ Sent e → AtPlace cs n w e i d
+pub at_each_place : (cs : List Controller) (n w : ℕ) (e : Event) (i : ℕ) (d : Controller) → verdict_of cs n w ≡ Ok e → AtPlace cs n w e i d
 unfolding records_by told_by record_at
 at_each_place cs n w e i d v =
     record {

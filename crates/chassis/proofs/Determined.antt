@@ -5,7 +5,6 @@ use mathlib.Core.Bool.{Bool}
 use mathlib.Core.List.{List}
 use Rattle.bus.specs.declared.Reply.{Reply}
 use Rattle.dock.specs.declared.Controller.{Controller}
-use Rattle.chassis.specs.declared.Answer.{Answer}
 use Rattle.chassis.specs.declared.Chassis.{Chassis}
 use Rattle.chassis.specs.declared.Errand.{Errand}
 use Rattle.chassis.specs.declared.Refusal.{Refusal}
@@ -24,9 +23,6 @@ use Rattle.chassis.proofs.Errand.reaches.Reads as reaches_reads
 use Rattle.chassis.proofs.Round.gathered.Reads as gathered_reads
 use Rattle.chassis.proofs.Errand.told.Reads as told_reads
 use Rattle.chassis.proofs.Refusal.number.Reads as number_reads
-use Rattle.chassis.proofs.Answer.refusal.Reads as refusal_reads
-use Rattle.chassis.proofs.Answer.reply.Reads as reply_reads
-use Rattle.chassis.proofs.Answer.byte.Reads as byte_Reads
 
 -- What `step` ensures is `Called`, of the list before and after the call.
 pub step_determined : (cs : List Controller) (n w : ℕ) (a b : List Controller) (s t : Told) → Called cs n w a s → Called cs n w b t → (a ≡ b) × (s ≡ t)
@@ -65,12 +61,3 @@ told_determined e y r s p q = p ∙ sym q
 
 pub number_determined : (x : Refusal) (r s : ℕ) → number_reads.Post tt (x, tt) r (x, tt) → number_reads.Post tt (x, tt) s (x, tt) → r ≡ s
 number_determined x r s p q = p ∙ sym q
-
-pub refusal_determined : (x : Answer) (r s : ℕ) → refusal_reads.Post tt (x, tt) r (x, tt) → refusal_reads.Post tt (x, tt) s (x, tt) → r ≡ s
-refusal_determined x r s p q = p ∙ sym q
-
-pub reply_determined : (x : Answer) (r s : ℕ) → reply_reads.Post tt (x, tt) r (x, tt) → reply_reads.Post tt (x, tt) s (x, tt) → r ≡ s
-reply_determined x r s p q = p ∙ sym q
-
-pub byte_determined : (x : Answer) (r s : ℕ) → byte_Reads.Post tt (x, tt) r (x, tt) → byte_Reads.Post tt (x, tt) s (x, tt) → r ≡ s
-byte_determined x r s p q = p ∙ sym q

@@ -13,21 +13,19 @@ use borrow.Author.Tests.{eqb-true, eqb-false}
 use Rattle.event.specs.Words.{unpacked}
 use Rattle.event.specs.declared.Event.{Event}
 use Rattle.event.specs.declared.Event.TheVariants.{Start, Stop, Byte, Take, Pins, Tick, Reset, Timeout}
-use Rattle.event.specs.declared.Unpacked.TheVariants.{Accepted}
 use Rattle.bus.specs.declared.Reply.{Reply}
 use Rattle.bus.specs.declared.Reply.TheVariants.{Nothing, Ack, NoAck, Driven, NotDriven}
 use Rattle.bay.proofs.Taut.{pick}
 use Rattle.dock.specs.Shared.{standing_of}
 use Rattle.dock.specs.declared.Controller.{Controller}
 use Rattle.dock.proofs.Sharing.{is_byte_event, is_take_event, spoken, Speaks, speaks, reading_started}
-use Rattle.chassis.specs.declared.Answer.TheVariants.{Done, Refused as RefusedWith}
-use Rattle.chassis.specs.declared.Verdict.{Verdict}
-use Rattle.chassis.specs.declared.Verdict.TheVariants.{Sent, Refused}
 use Rattle.chassis.specs.Judge.{faulty, standings, verdict_of}
 use Rattle.chassis.specs.Chassis.{goes_to, reply_at, replies_from, unanswered, heard, told_by, told_of}
 use Rattle.chassis.proofs.Accepting.{Accepts, accepts}
 use Rattle.chassis.proofs.AtPlace.{replies_length, reply_at_lem}
 use Rattle.chassis.proofs.Usable.{fit_at, apart_at}
+use Rattle.std.specs.Prelude.{Ok, Err, Result}
+use Rattle.chassis.specs.declared.Refusal.{Refusal}
 
 -- ---- the statements
 
@@ -48,7 +46,7 @@ pub record Hears (cs : List Controller) (d : Controller) (w : ℕ) (e : Event) (
 
 -- At most one drives.
 pub at_most_one_drives :
-    (cs : List Controller) (d : Controller) (w : ℕ) (e : Event) → faulty (standings cs) ≡ false → unpacked w ≡ Accepted e
+    (cs : List Controller) (d : Controller) (w : ℕ) (e : Event) → faulty (standings cs) ≡ false → unpacked w ≡ Ok e
     → (i j u v : ℕ) → i < length cs → j < length cs → spoken (get_or cs i d) w ≡ Driven u → spoken (get_or cs j d) w ≡ Driven v → i ≡ j
 at_most_one_drives cs d w e f x i j u v l m p q = go (eqb i j) refl
   where
@@ -224,8 +222,8 @@ module _ (cs : List Controller) (d : Controller) (n w : ℕ) (e : Event) (a : Ac
 
 -- What the reply to an accepted word is.
 pub hears :
-    (cs : List Controller) (d : Controller) (n w : ℕ) (e : Event) → verdict_of cs n w ≡ Sent e
-    → (r : Reply) × ((told_of cs n w).answer ≡ Done r) × Hears cs d w e r
+    (cs : List Controller) (d : Controller) (n w : ℕ) (e : Event) → verdict_of cs n w ≡ Ok e
+    → (r : Reply) × ((told_of cs n w).answer ≡ Ok r) × Hears cs d w e r
 unfolding told_by
 hears cs d n w e v = (heard (unanswered e) (replies_from e n w 0 cs), rw v, sent_hears cs d n w e (accepts cs n w e v))
 
@@ -234,7 +232,7 @@ hears cs d n w e v = (heard (unanswered e) (replies_from e n w 0 cs), rw v, sent
 -- It is the byte of one record and of no other, at a TAKE.
 pub record OneDrives (cs : List Controller) (d : Controller) (w v : ℕ) : Type 0 where
   pub ack : Bool
-  pub at_a_take : unpacked w ≡ Accepted (Take ack)
+  pub at_a_take : unpacked w ≡ Ok (Take ack)
   pub place : ℕ
   pub there : place < length cs
   pub drives : spoken (get_or cs place d) w ≡ Driven v
@@ -263,11 +261,11 @@ driven_at_a_take cs d w e r v h p = go (is_byte_event e) refl (is_take_event e) 
         absurd (omega arith)
     go false x false y = let n = h.others x y in let z : ◌≡◌ {A = ℕ} 0 1 = cc in absurd (omega arith)
 
-pub one_drives : (cs : List Controller) (d : Controller) (n w v : ℕ) → (told_of cs n w).answer ≡ Done (Driven v) → OneDrives cs d w v
+pub one_drives : (cs : List Controller) (d : Controller) (n w v : ℕ) → (told_of cs n w).answer ≡ Ok (Driven v) → OneDrives cs d w v
 unfolding told_by
 one_drives cs d n w v told = go (verdict_of cs n w) refl
   where
-    sent : (e : Event) → verdict_of cs n w ≡ Sent e → (r : Reply) → (told_of cs n w).answer ≡ Done r → Hears cs d w e r → OneDrives cs d w v
+    sent : (e : Event) → verdict_of cs n w ≡ Ok e → (r : Reply) → (told_of cs n w).answer ≡ Ok r → Hears cs d w e r → OneDrives cs d w v
     sent e p r q h =
         let all = accepts cs n w e p in
         let is : r ≡ Driven v = same_reply r q in
@@ -276,16 +274,16 @@ one_drives cs d n w v told = go (verdict_of cs n w) refl
         let one = (h.take_driven t v).0 is in
         record {
           ack = take.0;
-          at_a_take = all.is ∙ ap Accepted take.1;
+          at_a_take = all.is ∙ ap Ok take.1;
           place = one.0;
           there = one.1;
           drives = one.2;
           alone = λ j u l x. at_most_one_drives cs d w e all.usable all.is j one.0 u v l one.1 x one.2;
         }
       where
-        same_reply : (r : Reply) → (told_of cs n w).answer ≡ Done r → r ≡ Driven v
-        same_reply r q = let j : Done r ≡ Done (Driven v) = sym q ∙ told in cc
+        same_reply : (r : Reply) → (told_of cs n w).answer ≡ Ok r → r ≡ Driven v
+        same_reply r q = let j : (Ok r) ≡ (Ok (Driven v)) = sym q ∙ told in cc
 
-    go : (x : Verdict) → verdict_of cs n w ≡ x → OneDrives cs d w v
-    go (Sent e) p = let h = hears cs d n w e p in sent e p h.0 h.1 h.2
-    go (Refused x) p = let y : RefusedWith x ≡ Done (Driven v) = rw p at told in let z : ◌≡◌ {A = ℕ} 0 1 = cc in absurd (omega arith)
+    go : (x : Result Event Refusal) → verdict_of cs n w ≡ x → OneDrives cs d w v
+    go (Ok e) p = let h = hears cs d n w e p in sent e p h.0 h.1 h.2
+    go (Err x) p = let y : (Err x) ≡ (Ok (Driven v)) = rw p at told in let z : ◌≡◌ {A = ℕ} 0 1 = cc in absurd (omega arith)

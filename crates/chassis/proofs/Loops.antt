@@ -7,16 +7,17 @@ use lib.Dec.{ltb}
 use native.Mathlib.Nat.{not-suc-le-zero, le_of_suc-le-suc}
 use native.Mathlib.Numerals.{add-one}
 use native.Mathlib.Omega.{arith}
-use mathlib.Core.List.{List, [], ◌∷◌}
-use lib.ListN.{length, get_or, set}
+use mathlib.Core.List.{List, [], ◌∷◌, ◌++◌}
+use lib.ListN.{length, get_or, set, take, drop}
 use Rattle.dock.specs.declared.Controller.{Controller}
 use Rattle.chassis.specs.declared.Errand.{Errand}
 use Rattle.chassis.specs.declared.Round.{Round}
 use Rattle.chassis.specs.declared.Seen.{Seen}
-use Rattle.chassis.specs.declared.Verdict.{Verdict}
-use Rattle.chassis.specs.declared.Verdict.TheVariants.{Sent, Refused}
 use Rattle.chassis.specs.Looking.{looked_at, seen_with, seen_to}
 use Rattle.chassis.specs.Passing.{passed_of, places_by, records_to, round_to}
+use Rattle.chassis.specs.declared.Refusal.{Refusal}
+use Rattle.event.specs.declared.Event.{Event}
+use Rattle.std.specs.Prelude.{Err, Ok, Result}
 
 -- ---- looking
 
@@ -42,12 +43,19 @@ seen_suc s (suc i) (c ∷ cs) d l = seen_suc (seen_with s c) i cs d (le_of_suc-l
 pub seen_next : (s : Seen) (i : ℕ) (cs : List Controller) (d : Controller) → i < length cs → seen_with (seen_to s i cs) (get_or cs i d) ≡ seen_to s (i + 1) cs
 seen_next s i cs d l = seen_suc s i cs d l ∙ ap (λ (j : ℕ). seen_to s j cs) (sym (add-one i))
 
+-- Those looked at are the first of the list.
+pub seen_take : (s : Seen) (n : ℕ) (cs : List Controller) → seen_to s n (take n cs) ≡ seen_to s n cs
+unfolding seen_to
+seen_take s zero cs = refl
+seen_take s (suc n) [] = refl
+seen_take s (suc n) (c ∷ cs) = seen_take (seen_with s c) n cs
+
 -- ---- passing
 
 -- No more are passed than there are.
-pub places_within : (v : Verdict) (n : ℕ) → places_by v n ≤ n
-places_within (Sent e) n = omega arith
-places_within (Refused x) n = omega arith
+pub places_within : (v : Result Event Refusal) (n : ℕ) → places_by v n ≤ n
+places_within (Ok e) n = omega arith
+places_within (Err x) n = omega arith
 
 module _ (r : Errand) where
   pub records_none : (y : Round) (cs : List Controller) → records_to r y 0 cs ≡ cs
@@ -63,6 +71,19 @@ module _ (r : Errand) where
   records_length y zero cs = refl
   records_length y (suc i) [] = refl
   records_length y (suc i) (c ∷ cs) = ap suc (records_length (passed_of r y c).round i cs)
+
+  -- Those passed are the first of the list, and the rest is as it came.
+  pub records_take : (y : Round) (n : ℕ) (cs : List Controller) → records_to r y n (take n cs) ++ drop n cs ≡ records_to r y n cs
+  unfolding records_to
+  records_take y zero cs = refl
+  records_take y (suc n) [] = refl
+  records_take y (suc n) (c ∷ cs) = ap (λ (t : List Controller). (passed_of r y c).controller ∷ t) (records_take (passed_of r y c).round n cs)
+
+  pub round_take : (y : Round) (n : ℕ) (cs : List Controller) → round_to r y n (take n cs) ≡ round_to r y n cs
+  unfolding round_to
+  round_take y zero cs = refl
+  round_take y (suc n) [] = refl
+  round_take y (suc n) (c ∷ cs) = round_take (passed_of r y c).round n cs
 
   -- The record that is passed next is as it came.
   pub record_waits : (y : Round) (i : ℕ) (cs : List Controller) (d : Controller) → get_or (records_to r y i cs) i d ≡ get_or cs i d

@@ -8,11 +8,11 @@ use lib.ListN.{get_or, replicate}
 use Rattle.event.specs.Words.{unpacked}
 use Rattle.event.specs.declared.Event.{Event}
 use Rattle.event.specs.declared.Event.TheVariants.{Start, Stop, Byte, Take, Pins, Tick, Reset, Timeout}
-use Rattle.event.specs.declared.Unpacked.{Unpacked}
-use Rattle.event.specs.declared.Unpacked.TheVariants.{Accepted, StrayBit as NoEvent}
 use Rattle.bus.specs.Progress.{own_write_byte}
 use Rattle.dock.specs.declared.Standing.{Standing}
 use Rattle.chassis.specs.Judge.{some, clash, faulty, nobody, started, unheard, neighbours, has, address_taken, by_word, judged}
+use Rattle.std.specs.Prelude.{Result, Ok, Err}
+use Rattle.event.specs.declared.NoEvent.{NoEvent}
 
 -- So many places of nobody's behind some standings.
 abbrev pub followed : List Standing → ℕ → List Standing
@@ -69,10 +69,10 @@ taken_followed Tick n ss k = refl
 taken_followed (Reset straps levels short) n ss k = neighbours_followed (has (own_write_byte straps)) refl n ss k
 taken_followed Timeout n ss k = refl
 
-by_word_followed : (records : ℕ) (ss : List Standing) (k n : ℕ) (u : Unpacked) → by_word records (followed ss k) n u ≡ by_word records ss n u
+by_word_followed : (records : ℕ) (ss : List Standing) (k n : ℕ) (u : Result Event NoEvent) → by_word records (followed ss k) n u ≡ by_word records ss n u
 unfolding by_word
-by_word_followed records ss k n NoEvent = refl
-by_word_followed records ss k n (Accepted e) = rw (unheard_followed e n ss k, taken_followed e n ss k)
+by_word_followed records ss k n (Err why) = refl
+by_word_followed records ss k n (Ok e) = rw (unheard_followed e n ss k, taken_followed e n ss k)
 
 pub judged_followed : (records : ℕ) (ss : List Standing) (k n w : ℕ) → judged records (followed ss k) n w ≡ judged records ss n w
 unfolding judged

@@ -11,10 +11,10 @@ use Rattle.event.specs.declared.Event.{Event}
 use Rattle.event.specs.declared.Event.TheVariants.{Start, Stop, Byte, Take, Pins, Tick, Reset, Timeout}
 use Rattle.dock.specs.Step.{step_of}
 use Rattle.dock.specs.declared.Controller.{Controller}
-use Rattle.chassis.specs.declared.Verdict.TheVariants.{Sent}
 use Rattle.chassis.specs.Judge.{verdict_of}
 use Rattle.chassis.specs.Chassis.{record_at, records_of}
 use Rattle.chassis.proofs.AtPlace.{at_each_place}
+use Rattle.std.specs.Prelude.{Ok}
 
 module _ (cs : List Controller) (n w i : ℕ) (d : Controller) where
   -- The record at the place took the word, by the single call; it is as it was.
@@ -37,7 +37,7 @@ module _ (cs : List Controller) (n w i : ℕ) (d : Controller) where
     pub reset : (straps levels : ℕ) (short : Bool) → e ≡ Reset straps levels short → i ≡ n → Gets
     pub reset_elsewhere : (straps levels : ℕ) (short : Bool) → e ≡ Reset straps levels short → i ≢ n → Stays
 
-  pub reaches : (e : Event) → verdict_of cs n w ≡ Sent e → i < length cs → Reaches e
+  pub reaches : (e : Event) → verdict_of cs n w ≡ Ok e → i < length cs → Reaches e
   unfolding record_at
   reaches e v l =
       let here = (at_each_place cs n w e i d v).here l in

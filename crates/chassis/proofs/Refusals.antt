@@ -12,8 +12,6 @@ use borrow.Author.Tests.{eqb-false}
 use Rattle.event.specs.Words.{unpacked, is_reset}
 use Rattle.event.specs.declared.Event.{Event}
 use Rattle.event.specs.declared.Event.TheVariants.{Start, Stop, Byte, Take, Pins, Tick, Reset, Timeout}
-use Rattle.event.specs.declared.Unpacked.{Unpacked}
-use Rattle.event.specs.declared.Unpacked.TheVariants.{Accepted, StrayBit as NoEvent}
 use Rattle.event.proofs.Theorems.{words_refused}
 use Rattle.event.proofs.RoundTrip.{accepted_is_none}
 use Rattle.bus.specs.Progress.{own_write_byte}
@@ -21,14 +19,15 @@ use Rattle.bay.proofs.Taut.{pick}
 use Rattle.dock.specs.Shared.{standing_of}
 use Rattle.dock.specs.declared.Controller.{Controller}
 use Rattle.dock.specs.declared.Standing.{Standing}
-use Rattle.chassis.specs.declared.Verdict.{Verdict}
-use Rattle.chassis.specs.declared.Verdict.TheVariants.{Sent, Refused}
 use Rattle.chassis.specs.Judge.{some, wrong_length, faulty, names, absent, nobody, started, unheard, has, address_taken, by_word, judged, standings, verdict_of}
 use Rattle.chassis.specs.Numbers.{answer_refusal, answer_reply, answer_byte}
 use Rattle.chassis.specs.Chassis.{told_by, records_by, records_of, told_of}
 use Rattle.chassis.specs.Refusals.{standing_at, IsPins, IsReset, Nine, One, Two, Ten, Three, Eleven, Exactly}
 use Rattle.chassis.proofs.Places.{Says, says_iff, says_or, says_and, says_not, says_true, says_false, says_eqb, says_ltb, says_known, says_never, is_true}
 use Rattle.chassis.proofs.Places.{SomeAt, some_says, SomeElse, else_says, faulty_says}
+use Rattle.std.specs.Prelude.{Result, Ok, Err}
+use Rattle.event.specs.declared.NoEvent.{NoEvent}
+use Rattle.chassis.specs.declared.Refusal.{Refusal}
 
 -- ---- the six tests
 
@@ -44,14 +43,14 @@ module _ (w : ℕ) where
   Naming = IsPins w ⊎ IsReset w
 
   -- another event of the same word is the same event
-  same : {x y : Event} → unpacked w ≡ Accepted x → unpacked w ≡ Accepted y → x ≡ y
-  same {x} {y} p q = let j : Accepted x ≡ Accepted y = sym p ∙ q in cc
+  same : {x y : Event} → unpacked w ≡ Ok x → unpacked w ≡ Ok y → x ≡ y
+  same {x} {y} p q = let j : Ok x ≡ Ok y = sym p ∙ q in cc
 
-  unnamed : (e : Event) → unpacked w ≡ Accepted e → names e ≡ false → Naming → ⊥
+  unnamed : (e : Event) → unpacked w ≡ Ok e → names e ≡ false → Naming → ⊥
   unnamed e u n (inl (levels, p)) = true≢false (sym (ap names (same u p)) ∙ n)
   unnamed e u n (inr (straps, (levels, short, p))) = true≢false (sym (ap names (same u p)) ∙ n)
 
-  names_says : (e : Event) → unpacked w ≡ Accepted e → Says (names e) Naming
+  names_says : (e : Event) → unpacked w ≡ Ok e → Says (names e) Naming
   names_says Start u = says_never (unnamed Start u refl)
   names_says Stop u = says_never (unnamed Stop u refl)
   names_says (Byte b) u = says_never (unnamed (Byte b) u refl)
@@ -63,7 +62,7 @@ module _ (w : ℕ) where
 
 -- .. and the last three tests.
 module _ (cs : List Controller) (n w : ℕ) where
-  ten_says : (e : Event) → unpacked w ≡ Accepted e → Says (absent e n (length cs)) (Ten cs n w)
+  ten_says : (e : Event) → unpacked w ≡ Ok e → Says (absent e n (length cs)) (Ten cs n w)
   ten_says e u =
       says_and (names e) (not (ltb n (length cs))) (names_says w e u)
       (says_iff (λ h. omega (arith, h)) (λ l m. omega arith) (says_not (ltb n (length cs)) (says_ltb n (length cs))))
@@ -71,7 +70,7 @@ module _ (cs : List Controller) (n w : ℕ) where
   places : length (standings cs) ≡ length cs
   places = length-map cs standing_of
 
-  none_says : (e : Event) → unpacked w ≡ Accepted e → names e ≡ false → Says (not (some started (standings cs))) (Three cs n w)
+  none_says : (e : Event) → unpacked w ≡ Ok e → names e ≡ false → Says (not (some started (standings cs))) (Three cs n w)
   none_says e u f = says_iff to from (says_not (some started (standings cs)) (some_says started (standings cs) nobody))
     where
       off : (t : Bool) → (t ≡ true → ⊥) → t ≡ false
@@ -85,7 +84,7 @@ module _ (cs : List Controller) (n w : ℕ) where
       from (inl (p, q)) (i, l, t) = unnamed w e u f (inl p)
       from (inr (p, q, all)) (i, l, t) = true≢false (sym t ∙ all i (rw places at l))
 
-  three_says : (e : Event) → unpacked w ≡ Accepted e → Says (unheard e n (standings cs)) (Three cs n w)
+  three_says : (e : Event) → unpacked w ≡ Ok e → Says (unheard e n (standings cs)) (Three cs n w)
   three_says Start u = none_says Start u refl
   three_says Stop u = none_says Stop u refl
   three_says (Byte b) u = none_says (Byte b) u refl
@@ -100,10 +99,10 @@ module _ (cs : List Controller) (n w : ℕ) where
       is_reset_lem (x, p) = let q : Pins x ≡ Reset straps levels short = same w p u in let z : ◌≡◌ {A = ℕ} 0 1 = cc in omega arith
   three_says Timeout u = none_says Timeout u refl
 
-  never_says : (e : Event) → unpacked w ≡ Accepted e → is_reset e ≡ false → Says false (Eleven cs n w)
+  never_says : (e : Event) → unpacked w ≡ Ok e → is_reset e ≡ false → Says false (Eleven cs n w)
   never_says e u f = says_never (λ h. true≢false (sym (ap is_reset (same w u h.1.2)) ∙ f))
 
-  pub eleven_says : (e : Event) → unpacked w ≡ Accepted e → Says (address_taken e n (standings cs)) (Eleven cs n w)
+  pub eleven_says : (e : Event) → unpacked w ≡ Ok e → Says (address_taken e n (standings cs)) (Eleven cs n w)
   eleven_says Start u = never_says Start u refl
   eleven_says Stop u = never_says Stop u refl
   eleven_says (Byte b) u = never_says (Byte b) u refl
@@ -220,8 +219,8 @@ module _ (cs : List Controller) (n w : ℕ) where
       }
 
   by_event_lem :
-      (Nine cs → ⊥) → (One cs → ⊥) → (Two w → ⊥) → (e : Event) → unpacked w ≡ Accepted e
-      → Exactly cs n w (answer_refusal (told_by (by_word (length cs) (standings cs) n (Accepted e)) n w cs).answer)
+      (Nine cs → ⊥) → (One cs → ⊥) → (Two w → ⊥) → (e : Event) → unpacked w ≡ Ok e
+      → Exactly cs n w (answer_refusal (told_by (by_word (length cs) (standings cs) n (Ok e)) n w cs).answer)
   unfolding by_word told_by
   by_event_lem a b c e u =
       let ten = ten_says cs n w e u in
@@ -232,15 +231,15 @@ module _ (cs : List Controller) (n w : ℕ) where
       (λ s. pick Right (address_taken e n (standings cs)) (λ r. refused_11 a b c (ten.no t) (three.no s) (eleven.yes r))
       (λ r. accepted a b c (ten.no t) (three.no s) (eleven.no r))))
     where
-      Right : Verdict → Type 0
+      Right : Result Event Refusal → Type 0
       Right v = Exactly cs n w (answer_refusal (told_by v n w cs).answer)
 
   by_word_lem :
-      (Nine cs → ⊥) → (One cs → ⊥) → (u : Unpacked) → unpacked w ≡ u
+      (Nine cs → ⊥) → (One cs → ⊥) → (u : Result Event NoEvent) → unpacked w ≡ u
       → Exactly cs n w (answer_refusal (told_by (by_word (length cs) (standings cs) n u) n w cs).answer)
   unfolding by_word told_by
-  by_word_lem a b NoEvent u = refused_2 a b ((words_refused w).0 u)
-  by_word_lem a b (Accepted e) u = by_event_lem a b (λ c. accepted_is_none (sym u ∙ (words_refused w).1 c)) e u
+  by_word_lem a b (Err why) u = refused_2 a b ((words_refused w).0 u)
+  by_word_lem a b (Ok e) u = by_event_lem a b (λ c. accepted_is_none (sym u ∙ (words_refused w).1 c)) e u
 
   pub exactly : Exactly cs n w (answer_refusal (told_of cs n w).answer)
   unfolding judged told_by
@@ -249,7 +248,7 @@ module _ (cs : List Controller) (n w : ℕ) where
       (λ t. pick Right (faulty (standings cs)) (λ s. refused_1 ((nine_says cs).no t) ((one_says cs).yes s))
       (λ s. by_word_lem ((nine_says cs).no t) ((one_says cs).no s) (unpacked w) refl))
     where
-      Right : Verdict → Type 0
+      Right : Result Event Refusal → Type 0
       Right v = Exactly cs n w (answer_refusal (told_by v n w cs).answer)
 
 -- ---- a refusal returns every record unchanged, reply, byte and outputs 0
@@ -264,6 +263,6 @@ pub refused_unchanged : (cs : List Controller) (n w : ℕ) → answer_refusal (t
 unfolding told_by records_by
 refused_unchanged cs n w = go (verdict_of cs n w) refl
   where
-    go : (v : Verdict) → verdict_of cs n w ≡ v → answer_refusal (told_of cs n w).answer ≢ 0 → Unchanged cs n w
-    go (Sent e) p r = absurd (r (rw p))
-    go (Refused x) p r = record { records = rw p; reply = rw p; byte = rw p; outputs = rw p }
+    go : (v : Result Event Refusal) → verdict_of cs n w ≡ v → answer_refusal (told_of cs n w).answer ≢ 0 → Unchanged cs n w
+    go (Ok e) p r = absurd (r (rw p))
+    go (Err x) p r = record { records = rw p; reply = rw p; byte = rw p; outputs = rw p }

@@ -16,18 +16,17 @@ use Rattle.bus.specs.declared.Reply.TheVariants.{Nothing}
 use Rattle.dock.specs.Answers.{reply_in}
 use Rattle.dock.specs.Step.{step_of}
 use Rattle.dock.specs.declared.Controller.{Controller}
-use Rattle.chassis.specs.declared.Answer.TheVariants.{Done}
 use Rattle.chassis.specs.declared.Errand.{Errand}
 use Rattle.chassis.specs.declared.Passed.{Passed}
 use Rattle.chassis.specs.declared.Refusal.TheVariants.{WrongLength}
 use Rattle.chassis.specs.declared.Round.{Round}
-use Rattle.chassis.specs.declared.Verdict.{Verdict}
-use Rattle.chassis.specs.declared.Verdict.TheVariants.{Sent, Refused}
 use Rattle.chassis.specs.Judge.{wrong_length, judged, verdict_of}
 use Rattle.chassis.specs.Chassis.{goes_to, record_at, reply_at, records_from, replies_from, unanswered, shown, four, records_by, told_by, records_of, told_of}
 use Rattle.chassis.specs.Passing.{louder, set_out_of, gathered, errand_of, passed_by, passed_of, places_by, records_to, round_to, told_after}
 use Rattle.chassis.proofs.AtPlace.{from_length}
 use Rattle.chassis.proofs.Loudest.{loudest, loudest_heard, unanswered_quiet}
+use Rattle.chassis.specs.declared.Refusal.{Refusal}
+use Rattle.std.specs.Prelude.{Err, Ok, Result}
 
 -- ---- the outputs
 
@@ -48,7 +47,7 @@ four_written (a ∷ (b ∷ (c ∷ (d ∷ (e ∷ xs))))) h = absurd (omega arith)
 
 module _ (e : Event) (n w : ℕ) where
   abbrev sent : Errand
-  sent = record { verdict = Sent e; named = n; word = w }
+  sent = record { verdict = Ok e; named = n; word = w }
 
   abbrev at : Reply → List ℕ → ℕ → Round
   at a os p = record { reply = a; outputs = os; place = p }
@@ -79,51 +78,51 @@ module _ (e : Event) (n w : ℕ) where
 
   told_from :
       (a : Reply) (os : List ℕ) (p : ℕ) (cs : List Controller) → p + length cs ≤ 4
-      → told_after (Sent e) (round_to sent (at a os p) (length cs) cs)
-      ≡ record { answer = Done (loudest a (replies_from e n w p cs)); outputs = written os p (map shown (records_from e n w p cs)) }
+      → told_after (Ok e) (round_to sent (at a os p) (length cs) cs)
+      ≡ record { answer = Ok (loudest a (replies_from e n w p cs)); outputs = written os p (map shown (records_from e n w p cs)) }
   unfolding round_to records_from replies_from
   told_from a os p [] h = refl
   told_from a os p (c ∷ cs) h =
-      ap (λ (x : Passed). told_after (Sent e) (round_to sent x.round (length cs) cs)) (one a os p c (omega arith)) ∙ told_from (louder a (reply_at e n w p c)) (set os p (shown (record_at e n w p c))) (suc p) cs (omega arith)
+      ap (λ (x : Passed). told_after (Ok e) (round_to sent x.round (length cs) cs)) (one a os p c (omega arith)) ∙ told_from (louder a (reply_at e n w p c)) (set os p (shown (record_at e n w p c))) (suc p) cs (omega arith)
 
 -- ---- any verdict
 
-abbrev judged_so : Verdict → ℕ → ℕ → Errand
+abbrev judged_so : Result Event Refusal → ℕ → ℕ → Errand
 judged_so v n w = record { verdict = v; named = n; word = w }
 
 -- Where a word is sent, the list has no more than four records.
-abbrev Few : Verdict → ℕ → Type 0
-Few (Sent e) records = records ≤ 4
-Few (Refused x) records = Unit
+abbrev Few : Result Event Refusal → ℕ → Type 0
+Few (Ok e) records = records ≤ 4
+Few (Err x) records = Unit
 
-few : (t : Bool) (v : Verdict) (records : ℕ) → (t ≡ false → records ≤ 4) → Few (cond t (Refused WrongLength) v) records
+few : (t : Bool) (v : Result Event Refusal) (records : ℕ) → (t ≡ false → records ≤ 4) → Few (cond t (Err WrongLength) v) records
 few true v records h = tt
-few false (Sent e) records h = h refl
-few false (Refused x) records h = tt
+few false (Ok e) records h = h refl
+few false (Err x) records h = tt
 
 verdict_few : (cs : List Controller) (n w : ℕ) → Few (verdict_of cs n w) (length cs)
 unfolding judged
 verdict_few cs n w = few (wrong_length (length cs)) _ (length cs) (λ h. ltb-false 4 (length cs) (neither (eqb (length cs) 0) (ltb 4 (length cs)) h).1)
 
 records_by_lem :
-    (v : Verdict) (n w : ℕ) (cs : List Controller) → Few v (length cs)
+    (v : Result Event Refusal) (n w : ℕ) (cs : List Controller) → Few v (length cs)
     → records_to (judged_so v n w) (set_out_of (judged_so v n w)) (places_by v (length cs)) cs ≡ records_by v n w cs
 unfolding records_to records_by
-records_by_lem (Sent e) n w cs h = records_from_lem e n w _ _ 0 cs (omega arith)
-records_by_lem (Refused x) n w cs h = refl
+records_by_lem (Ok e) n w cs h = records_from_lem e n w _ _ 0 cs (omega arith)
+records_by_lem (Err x) n w cs h = refl
 
 told_by_lem :
-    (v : Verdict) (n w : ℕ) (cs : List Controller) → Few v (length cs)
+    (v : Result Event Refusal) (n w : ℕ) (cs : List Controller) → Few v (length cs)
     → told_after v (round_to (judged_so v n w) (set_out_of (judged_so v n w)) (places_by v (length cs)) cs) ≡ told_by v n w cs
 unfolding told_by
-told_by_lem (Sent e) n w cs h =
+told_by_lem (Ok e) n w cs h =
     let few : length (map shown (records_from e n w 0 cs)) ≤ 4 = omega (arith, length-map (records_from e n w 0 cs) shown, from_length e n w 0 cs) in
     rw (
       told_from e n w _ _ 0 cs (omega arith),
       loudest_heard (unanswered e) (unanswered_quiet e) (replies_from e n w 0 cs),
       four_written (map shown (records_from e n w 0 cs)) few,
     )
-told_by_lem (Refused x) n w cs h = refl
+told_by_lem (Err x) n w cs h = refl
 
 -- ---- the call
 

@@ -15,8 +15,6 @@ use Rattle.dock.specs.Step.{step_of}
 use Rattle.dock.specs.Run as alone
 use Rattle.dock.specs.declared.Controller.{Controller}
 use Rattle.dock.proofs.Run.{calls_none, calls_one, calls_append}
-use Rattle.chassis.specs.declared.Verdict.{Verdict}
-use Rattle.chassis.specs.declared.Verdict.TheVariants.{Sent, Refused}
 use Rattle.chassis.specs.Judge.{faulty, standings, verdict_of}
 use Rattle.chassis.specs.Numbers.{answer_refusal}
 use Rattle.chassis.specs.Chassis.{goes_to, record_at, records_by, records_of, told_of}
@@ -24,6 +22,9 @@ use Rattle.chassis.specs.Run.{ChassisCall, word, naming, after_call, after_calls
 use Rattle.chassis.proofs.AtPlace.{record_at_lem, records_length}
 use Rattle.chassis.proofs.Refusals.{one_says, exactly}
 use Rattle.chassis.proofs.Usable.{stays_usable, name_usable}
+use Rattle.chassis.specs.declared.Refusal.{Refusal}
+use Rattle.event.specs.declared.Event.{Event}
+use Rattle.std.specs.Prelude.{Err, Ok, Result}
 
 -- ---- one call
 
@@ -41,13 +42,13 @@ one_alone cs (word n w) i l = go (verdict_of cs n w)
     c : Controller
     c = get_or cs i fresh_controller
 
-    go : (v : Verdict) → get_or (records_by v n w cs) i fresh_controller ≡ alone.after_calls c (word_for i v n w)
-    go (Sent e) = record_at_lem e n w cs i fresh_controller l ∙ by_place (goes_to e n i)
+    go : (v : Result Event Refusal) → get_or (records_by v n w cs) i fresh_controller ≡ alone.after_calls c (word_for i v n w)
+    go (Ok e) = record_at_lem e n w cs i fresh_controller l ∙ by_place (goes_to e n i)
       where
         by_place : (t : Bool) → cond t (step_of c w).controller c ≡ alone.after_calls c (cond t (alone.word w ∷ []) [])
         by_place true = sym (calls_one c (alone.word w))
         by_place false = sym (calls_none c)
-    go (Refused x) = sym (calls_none c)
+    go (Err x) = sym (calls_none c)
 one_alone cs (naming j k) i l = go (eqb i j) refl
   where
     c : Controller

@@ -15,7 +15,6 @@ use borrow.Author.Tests.{eqb-true, eqb-false, eq-eqb, ne_eqb, ltb-true, ltb-fals
 use Rattle.event.specs.Words.{unpacked, is_reset}
 use Rattle.event.specs.declared.Event.{Event}
 use Rattle.event.specs.declared.Event.TheVariants.{Start, Stop, Byte, Take, Pins, Tick, Reset, Timeout}
-use Rattle.event.specs.declared.Unpacked.TheVariants.{Accepted}
 use Rattle.bus.specs.Progress.{own_write_byte}
 use Rattle.bay.proofs.Taut.{pick}
 use Rattle.dock.specs.Name.{name_of}
@@ -24,8 +23,6 @@ use Rattle.dock.specs.Shared.{standing_of}
 use Rattle.dock.specs.declared.Controller.{Controller}
 use Rattle.dock.specs.declared.Standing.{Standing}
 use Rattle.dock.proofs.Sharing.{is_byte_event, stands, name_stands, fresh_stands}
-use Rattle.chassis.specs.declared.Verdict.{Verdict}
-use Rattle.chassis.specs.declared.Verdict.TheVariants.{Sent, Refused}
 use Rattle.chassis.specs.Judge.{faulty, standings, verdict_of}
 use Rattle.chassis.specs.Numbers.{answer_refusal}
 use Rattle.chassis.specs.Chassis.{goes_to, record_at, records_from, records_by, records_of, told_of}
@@ -34,6 +31,8 @@ use Rattle.chassis.proofs.Places.{SomeUnfit, TwoClash, fit_in_lem, apart_in, cla
 use Rattle.chassis.proofs.Accepting.{Accepts, accepts}
 use Rattle.chassis.proofs.AtPlace.{stands_at, from_length, record_at_lem, records_length}
 use Rattle.chassis.proofs.Refusals.{one_says, eleven_says, exactly}
+use Rattle.std.specs.Prelude.{Ok, Err, Result}
+use Rattle.chassis.specs.declared.Refusal.{Refusal}
 
 -- ---- the records of a list that isn't faulty
 
@@ -82,7 +81,7 @@ byte_or_not (Reset straps levels short) = inr refl
 byte_or_not Timeout = inr refl
 
 keeps :
-    (e : Event) (n w i : ℕ) (c : Controller) → (standing_of c).fit ≡ true → unpacked w ≡ Accepted e → is_reset e ≡ false
+    (e : Event) (n w i : ℕ) (c : Controller) → (standing_of c).fit ≡ true → unpacked w ≡ Ok e → is_reset e ≡ false
     → Keeps e (standing_of c) (standing_of (record_at e n w i c))
 unfolding record_at
 keeps e n w i c f u r =
@@ -115,7 +114,7 @@ module _ (straps levels : ℕ) (short : Bool) (n w i : ℕ) (c : Controller) whe
   abbrev resets : Event
   resets = Reset straps levels short
 
-  reset_here : (standing_of c).fit ≡ true → unpacked w ≡ Accepted resets → i ≡ n → standing_of (record_at resets n w i c) ≡ anew straps
+  reset_here : (standing_of c).fit ≡ true → unpacked w ≡ Ok resets → i ≡ n → standing_of (record_at resets n w i c) ≡ anew straps
   unfolding record_at anew
   reset_here f u p = rw (eq-eqb i n p) ((stands c w resets f u).reset straps levels short refl)
 
@@ -208,9 +207,9 @@ pub stays_usable : (cs : List Controller) (n w : ℕ) → faulty (standings cs) 
 unfolding records_by
 stays_usable cs n w f = go (verdict_of cs n w) refl
   where
-    go : (v : Verdict) → verdict_of cs n w ≡ v → faulty (standings (records_by v n w cs)) ≡ false
-    go (Sent e) p = sent_usable cs n w e (accepts cs n w e p)
-    go (Refused x) p = f
+    go : (v : Result Event Refusal) → verdict_of cs n w ≡ v → faulty (standings (records_by v n w cs)) ≡ false
+    go (Ok e) p = sent_usable cs n w e (accepts cs n w e p)
+    go (Err x) p = f
 
 -- .. nor after the call that names a kind, which leaves how every record stands ..
 pub name_leaves :

@@ -8,18 +8,17 @@ use Rattle.bus.specs.Reply.{reply_byte}
 use Rattle.bus.specs.declared.Reply.{Reply}
 use Rattle.bus.specs.declared.Reply.TheVariants.{Nothing, Ack, NoAck, Driven, NotDriven}
 use Rattle.bay.proofs.Taut.{pick}
-use Rattle.dock.specs.Answers.{byte_of, reply_in}
+use Rattle.dock.specs.Answers.{byte_of, reply_in, Answer}
 use Rattle.dock.specs.Held.{held_value, held_fit}
 use Rattle.dock.specs.Step.{step_of}
-use Rattle.dock.specs.declared.Answer.{Answer}
-use Rattle.dock.specs.declared.Answer.TheVariants.{Done, Unfit, StrayBit, NotStarted}
 use Rattle.dock.specs.declared.Controller.{Controller}
 use Rattle.dock.proofs.Widths.{byte_wide}
-use Rattle.chassis.specs.declared.Verdict.{Verdict}
-use Rattle.chassis.specs.declared.Verdict.TheVariants.{Sent, Refused}
 use Rattle.chassis.specs.Judge.{verdict_of}
 use Rattle.chassis.specs.Chassis.{goes_to, reply_at, replies_from, unanswered, heard, told_by, told_of}
 use Rattle.chassis.specs.Numbers.{answer_byte}
+use Rattle.dock.specs.declared.Refusal.TheVariants.{NotStarted, StrayBit, Unfit}
+use Rattle.std.specs.Prelude.{Err, Ok, Result}
+use Rattle.chassis.specs.declared.Refusal.{Refusal}
 
 -- Each byte that is held is one.
 unfoldable pub Held : List Controller → Type 0
@@ -27,10 +26,10 @@ Held [] = Unit {0}
 Held (c ∷ cs) = (held_value (held_fit c) < 512) × Held cs
 
 said_wide : (a : Answer) → byte_of a < 256 → reply_byte (reply_in a) < 256
-said_wide (Done r o) h = h
-said_wide Unfit h = omega arith
-said_wide (StrayBit o) h = omega arith
-said_wide NotStarted h = omega arith
+said_wide (Ok d) h = h
+said_wide (Err Unfit) h = omega arith
+said_wide (Err (StrayBit o)) h = omega arith
+said_wide (Err NotStarted) h = omega arith
 
 reply_wide : (e : Event) (n w place : ℕ) (c : Controller) → held_value (held_fit c) < 512 → reply_byte (reply_at e n w place c) < 256
 unfolding reply_at
@@ -66,6 +65,6 @@ pub told_byte_wide : (cs : List Controller) (n w : ℕ) → Held cs → answer_b
 unfolding told_by
 told_byte_wide cs n w h = by_verdict (verdict_of cs n w)
   where
-    by_verdict : (v : Verdict) → answer_byte (told_by v n w cs).answer < 256
-    by_verdict (Sent e) = heard_wide e n w 0 cs h
-    by_verdict (Refused x) = omega arith
+    by_verdict : (v : Result Event Refusal) → answer_byte (told_by v n w cs).answer < 256
+    by_verdict (Ok e) = heard_wide e n w 0 cs h
+    by_verdict (Err x) = omega arith

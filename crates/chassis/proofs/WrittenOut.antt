@@ -3,13 +3,13 @@ use Prim.Native.Nat.{ℕ}
 use mathlib.Core.Path.{◌≡◌, refl}
 use Rattle.bus.specs.declared.Reply.{Reply}
 use Rattle.bus.specs.declared.Reply.TheVariants.{Nothing, Ack, NoAck, Driven, NotDriven}
-use Rattle.chassis.specs.declared.Answer.TheVariants.{Done}
 use Rattle.chassis.specs.Numbers.{answer_refusal, answer_reply, answer_byte}
+use Rattle.std.specs.Prelude.{Ok}
 
 pub record Numbered (r : Reply) (reply byte : ℕ) : Type 0 where
-  pub accepted : answer_refusal (Done r) ≡ 0
-  pub reply_is : answer_reply (Done r) ≡ reply
-  pub byte_is : answer_byte (Done r) ≡ byte
+  pub accepted : answer_refusal (Ok r) ≡ 0
+  pub reply_is : answer_reply (Ok r) ≡ reply
+  pub byte_is : answer_byte (Ok r) ≡ byte
 
 pub record Written : Type 0 where
   pub nothing : Numbered Nothing 0 0

@@ -1,5 +1,6 @@
 -- What a call does (document 02, request 9): the records afterwards, the reply, and four sets of outputs.
 use Rattle.std.specs.Prelude.{ℕ, suc, ◌≡◌, Bool, cond, not, ◌||◌, List, [], ◌∷◌, map, eqb, get_or}
+use Rattle.std.specs.Prelude.{Result, Ok, Err}
 use Rattle.event.specs.declared.Event.{Event}
 use Rattle.event.specs.declared.Event.TheVariants.{Start, Stop, Byte, Take, Pins, Tick, Reset, Timeout}
 use Rattle.bus.specs.declared.Reply.{Reply}
@@ -7,11 +8,9 @@ use Rattle.bus.specs.declared.Reply.TheVariants.{Nothing, Ack, NoAck, Driven, No
 use Rattle.dock.specs.Answers.{told_value, reply_in}
 use Rattle.dock.specs.Step.{step_of, told_outputs}
 use Rattle.dock.specs.declared.Controller.{Controller}
-use Rattle.chassis.specs.declared.Answer.TheVariants.{Done, Refused as RefusedWith}
 use Rattle.chassis.specs.declared.Told.{Told}
-use Rattle.chassis.specs.declared.Verdict.{Verdict}
-use Rattle.chassis.specs.declared.Verdict.TheVariants.{Sent, Refused}
 use Rattle.chassis.specs.Judge.{names, verdict_of}
+use Rattle.chassis.specs.declared.Refusal.{Refusal}
 
 -- Every bus event, TIMEOUT and TICK goes to all; PINS and RESET to the one that is named. (A record that isn't started refuses all but a RESET, and
 -- stays as it is: it is passed over.)
@@ -62,15 +61,15 @@ abbrev pub four : List ℕ → List ℕ
 four os = get_or os 0 0 ∷ get_or os 1 0 ∷ get_or os 2 0 ∷ get_or os 3 0 ∷ []
 
 -- The records afterwards; a refusal returns every record unchanged.
-unfoldable pub records_by : Verdict → ℕ → ℕ → List Controller → List Controller
-records_by (Sent e) n w cs = records_from e n w 0 cs
-records_by (Refused x) n w cs = cs
+unfoldable pub records_by : Result Event Refusal → ℕ → ℕ → List Controller → List Controller
+records_by (Ok e) n w cs = records_from e n w 0 cs
+records_by (Err x) n w cs = cs
 
 -- The answer; with a refusal reply, byte and outputs are 0.
-unfoldable pub told_by : Verdict → ℕ → ℕ → List Controller → Told
-told_by (Sent e) n w cs =
-    record { answer = Done (heard (unanswered e) (replies_from e n w 0 cs)); outputs = four (map shown (records_from e n w 0 cs)) }
-told_by (Refused x) n w cs = record { answer = RefusedWith x; outputs = four [] }
+unfoldable pub told_by : Result Event Refusal → ℕ → ℕ → List Controller → Told
+told_by (Ok e) n w cs =
+    record { answer = Ok (heard (unanswered e) (replies_from e n w 0 cs)); outputs = four (map shown (records_from e n w 0 cs)) }
+told_by (Err x) n w cs = record { answer = Err x; outputs = four [] }
 
 -- Of a list of records, the number that stands beside the word, and the word.
 abbrev pub records_of : List Controller → ℕ → ℕ → List Controller

@@ -3,15 +3,14 @@ use Rattle.std.specs.Prelude.{ℕ, suc, Bool, true, false, cond, not, ◌&&◌, 
 use Rattle.event.specs.Words.{unpacked}
 use Rattle.event.specs.declared.Event.{Event}
 use Rattle.event.specs.declared.Event.TheVariants.{Start, Stop, Byte, Take, Pins, Tick, Reset, Timeout}
-use Rattle.event.specs.declared.Unpacked.{Unpacked}
-use Rattle.event.specs.declared.Unpacked.TheVariants.{Accepted, StrayBit as NoEvent}
 use Rattle.bus.specs.Progress.{own_write_byte}
 use Rattle.dock.specs.Shared.{standing_of}
 use Rattle.dock.specs.declared.Controller.{Controller}
 use Rattle.dock.specs.declared.Standing.{Standing}
-use Rattle.chassis.specs.declared.Verdict.{Verdict}
-use Rattle.chassis.specs.declared.Verdict.TheVariants.{Sent, Refused}
 use Rattle.chassis.specs.declared.Refusal.TheVariants.{WrongLength, Unfit, StrayBit, Absent, NotStarted, AddressTaken}
+use Rattle.std.specs.Prelude.{Result, Ok, Err}
+use Rattle.event.specs.declared.NoEvent.{NoEvent}
+use Rattle.chassis.specs.declared.Refusal.{Refusal}
 
 -- Some element of a list is so.
 abbrev pub some : {A : Type 0} → (A → Bool) → List A → Bool
@@ -84,21 +83,21 @@ address_taken (Reset straps levels short) n ss = some (has (own_write_byte strap
 address_taken Timeout n ss = false
 
 -- In this order: 2, 10, 3, 11.
-abbrev pub by_event : ℕ → List Standing → ℕ → Event → Verdict
+abbrev pub by_event : ℕ → List Standing → ℕ → Event → Result Event Refusal
 by_event records ss n e =
-    cond (absent e n records) (Refused Absent) (cond (unheard e n ss) (Refused NotStarted) (cond (address_taken e n ss) (Refused AddressTaken) (Sent e)))
+    cond (absent e n records) (Err Absent) (cond (unheard e n ss) (Err NotStarted) (cond (address_taken e n ss) (Err AddressTaken) (Ok e)))
 
-unfoldable pub by_word : ℕ → List Standing → ℕ → Unpacked → Verdict
-by_word records ss n NoEvent = Refused StrayBit
-by_word records ss n (Accepted e) = by_event records ss n e
+unfoldable pub by_word : ℕ → List Standing → ℕ → Result Event NoEvent → Result Event Refusal
+by_word records ss n (Err why) = Err StrayBit
+by_word records ss n (Ok e) = by_event records ss n e
 
 -- Before them: 9, 1. For a list of so many records that stand so.
-unfoldable pub judged : ℕ → List Standing → ℕ → ℕ → Verdict
-judged records ss n w = cond (wrong_length records) (Refused WrongLength) (cond (faulty ss) (Refused Unfit) (by_word records ss n (unpacked w)))
+unfoldable pub judged : ℕ → List Standing → ℕ → ℕ → Result Event Refusal
+judged records ss n w = cond (wrong_length records) (Err WrongLength) (cond (faulty ss) (Err Unfit) (by_word records ss n (unpacked w)))
 
 abbrev pub standings : List Controller → List Standing
 standings cs = map standing_of cs
 
 -- Of a list of records, the number that stands beside the word, and the word.
-abbrev pub verdict_of : List Controller → ℕ → ℕ → Verdict
+abbrev pub verdict_of : List Controller → ℕ → ℕ → Result Event Refusal
 verdict_of cs n w = judged (length cs) (standings cs) n w

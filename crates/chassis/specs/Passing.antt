@@ -1,19 +1,19 @@
 -- The records of a list get the event, one after the other: the code's own way to the records and the answer of Chassis.antt.
 use Rattle.std.specs.Prelude.{ℕ, zero, suc, ◌+◌, Bool, true, false, cond, ◌≡◌, List, [], ◌∷◌, ltb, length, set}
+use Rattle.std.specs.Prelude.{Result, Ok, Err}
 use Rattle.bus.specs.declared.Reply.{Reply}
 use Rattle.bus.specs.declared.Reply.TheVariants.{Nothing, Ack, NoAck, Driven, NotDriven}
 use Rattle.dock.specs.Answers.{reply_in}
 use Rattle.dock.specs.Step.{step_of}
 use Rattle.dock.specs.declared.Controller.{Controller}
-use Rattle.chassis.specs.declared.Answer.TheVariants.{Done, Refused as RefusedWith}
 use Rattle.chassis.specs.declared.Errand.{Errand}
 use Rattle.chassis.specs.declared.Passed.{Passed}
 use Rattle.chassis.specs.declared.Round.{Round}
 use Rattle.chassis.specs.declared.Told.{Told}
-use Rattle.chassis.specs.declared.Verdict.{Verdict}
-use Rattle.chassis.specs.declared.Verdict.TheVariants.{Sent, Refused}
 use Rattle.chassis.specs.Judge.{MOST, verdict_of}
 use Rattle.chassis.specs.Chassis.{goes_to, unanswered, shown}
+use Rattle.chassis.specs.declared.Refusal.{Refusal}
+use Rattle.event.specs.declared.Event.{Event}
 
 -- Of two replies the one that counts: an ACK or a driven byte, the first of them; the first where neither is.
 abbrev pub spoken : Reply → Reply → Reply
@@ -35,9 +35,9 @@ abbrev pub errand_of : List Controller → ℕ → ℕ → Errand
 errand_of cs n w = record { verdict = verdict_of cs n w; named = n; word = w }
 
 -- Before the first record.
-abbrev pub reply_before : Verdict → Reply
-reply_before (Sent e) = unanswered e
-reply_before (Refused x) = Nothing
+abbrev pub reply_before : Result Event Refusal → Reply
+reply_before (Ok e) = unanswered e
+reply_before (Err x) = Nothing
 
 abbrev pub set_out_of : Errand → Round
 set_out_of r = record { reply = reply_before r.verdict; outputs = 0 ∷ 0 ∷ 0 ∷ 0 ∷ []; place = 0 }
@@ -47,9 +47,9 @@ abbrev pub gathered : Round → Reply → ℕ → Round
 gathered y reply o = cond (ltb y.place MOST) (record { reply = louder y.reply reply; outputs = set y.outputs y.place o; place = y.place + 1 }) y
 
 -- Whether the record at a place gets the event.
-abbrev pub reaches_by : Verdict → ℕ → ℕ → Bool
-reaches_by (Sent e) n place = goes_to e n place
-reaches_by (Refused x) n place = false
+abbrev pub reaches_by : Result Event Refusal → ℕ → ℕ → Bool
+reaches_by (Ok e) n place = goes_to e n place
+reaches_by (Err x) n place = false
 
 -- A record is passed: it gets the event, or it is left as it is.
 unfoldable pub passed_by : Bool → Errand → Round → Controller → Passed
@@ -60,9 +60,9 @@ unfoldable pub passed_of : Errand → Round → Controller → Passed
 passed_of r y c = passed_by (reaches_by r.verdict r.named y.place) r y c
 
 -- How many of so many records are passed: with a refusal none.
-abbrev pub places_by : Verdict → ℕ → ℕ
-places_by (Sent e) n = n
-places_by (Refused x) n = 0
+abbrev pub places_by : Result Event Refusal → ℕ → ℕ
+places_by (Ok e) n = n
+places_by (Err x) n = 0
 
 -- The list with its first so many records passed, and what has been gathered then.
 unfoldable pub records_to : Errand → Round → ℕ → List Controller → List Controller
@@ -81,6 +81,6 @@ pub record PassedAll (r : Errand) (cs left : List Controller) (y : Round) : Type
   pub leaves : left ≡ records_to r (set_out_of r) (places_by r.verdict (length cs)) cs
 
 -- The answer after the round.
-abbrev pub told_after : Verdict → Round → Told
-told_after (Sent e) y = record { answer = Done y.reply; outputs = y.outputs }
-told_after (Refused x) y = record { answer = RefusedWith x; outputs = 0 ∷ 0 ∷ 0 ∷ 0 ∷ [] }
+abbrev pub told_after : Result Event Refusal → Round → Told
+told_after (Ok e) y = record { answer = Ok y.reply; outputs = y.outputs }
+told_after (Err x) y = record { answer = Err x; outputs = 0 ∷ 0 ∷ 0 ∷ 0 ∷ [] }

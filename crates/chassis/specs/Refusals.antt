@@ -2,11 +2,11 @@
 use Rattle.std.specs.Prelude.{ℕ, ◌≤◌, ◌<◌, ◌≡◌, ◌↔◌, ◌≢◌, ◌⊎◌, Bool, true, false, List, length, get_or}
 use Rattle.event.specs.Words.{unpacked, StrayBitSet}
 use Rattle.event.specs.declared.Event.TheVariants.{Pins, Reset}
-use Rattle.event.specs.declared.Unpacked.TheVariants.{Accepted}
 use Rattle.bus.specs.Progress.{own_write_byte}
 use Rattle.dock.specs.declared.Controller.{Controller}
 use Rattle.dock.specs.declared.Standing.{Standing}
 use Rattle.chassis.specs.Judge.{standings, nobody}
+use Rattle.std.specs.Prelude.{Ok}
 
 -- How the record at a place stands on the bus, by what the core tells of it: fit, started, its own address, and whether a read of it is open.
 abbrev pub standing_at : List Controller → ℕ → Standing
@@ -14,10 +14,10 @@ standing_at cs i = get_or (standings cs) i nobody
 
 -- The word is a PINS, or a RESET with these straps.
 abbrev pub IsPins : ℕ → Type 0
-IsPins w = (levels : ℕ) × (unpacked w ≡ Accepted (Pins levels))
+IsPins w = (levels : ℕ) × (unpacked w ≡ Ok (Pins levels))
 
 abbrev pub ResetsTo : ℕ → ℕ → Type 0
-ResetsTo straps w = (levels : ℕ) × (short : Bool) × (unpacked w ≡ Accepted (Reset straps levels short))
+ResetsTo straps w = (levels : ℕ) × (short : Bool) × (unpacked w ≡ Ok (Reset straps levels short))
 
 abbrev pub IsReset : ℕ → Type 0
 IsReset w = (straps : ℕ) × ResetsTo straps w

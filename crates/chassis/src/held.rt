@@ -4,7 +4,7 @@ ghost use Rattle.chassis.specs.Judge.{MOST};
 ghost use Rattle.chassis.specs.Held.{lent_of, stepped_of};
 
 use crate::stepping::step;
-use crate::{Answer, Chassis, Lent, MOST, Refusal, Stepped, Told};
+use crate::{Chassis, Lent, MOST, Refusal, Stepped, Told};
 use dock::Controller;
 
 // The first so many of four places are lent as a list.
@@ -30,15 +30,12 @@ impl Chassis {
             return Stepped {
                 chassis: self,
                 told: Told {
-                    answer: Answer::Refused(Refusal::WrongLength),
+                    answer: Err(Refusal::WrongLength),
                     outputs: [0; MOST],
                 },
             };
         }
-        let before = self.records;
-        let lent = lend(before, count, named, word);
-        let records = lent.records;
-        let told = lent.told;
+        let Lent { records, told } = lend(self.records, count, named, word);
         Stepped {
             chassis: Chassis { records, count },
             told,

@@ -17,7 +17,7 @@ use event::Event;
 pub const MOST: usize = 4;
 
 // Why a call is refused.
-#[derive(Clone, Copy)]
+#[derive(Clone, Copy, PartialEq, Eq)]
 pub enum Refusal {
     // The list has no record, or more than four.
     WrongLength,
@@ -34,11 +34,7 @@ pub enum Refusal {
 }
 
 // What a call answers, but for the outputs.
-#[derive(Clone, Copy)]
-pub enum Answer {
-    Done(Reply),
-    Refused(Refusal),
-}
+pub type Answer = Result<Reply, Refusal>;
 
 #[derive(Clone, Copy)]
 pub struct Told {
@@ -63,12 +59,8 @@ pub struct Stepped {
 // ---- a call in parts, for who keeps records otherwise than in a list: each is looked at, the call is judged, and what each that the event reaches
 // replies is gathered
 
-// What becomes of a call.
-#[derive(Clone, Copy)]
-pub enum Verdict {
-    Sent(Event),
-    Refused(Refusal),
-}
+// What becomes of a call: its event is sent, or it is refused.
+pub type Verdict = Result<Event, Refusal>;
 
 // How the records of a list stand on the bus, as far as they have been looked at; the places behind them are nobody's.
 #[derive(Clone, Copy)]

@@ -29,9 +29,8 @@ impl Seen {
     pub fn begun() -> Seen
         ensures { result ≡ begun }
     {
-        let standing = nobody();
         Seen {
-            standings: [standing; MOST],
+            standings: [nobody(); MOST],
             count: 0,
         }
     }
@@ -56,10 +55,9 @@ impl Seen {
 pub(crate) fn look(list: &[Controller]) -> Seen
     ensures { result ≡ seen_to begun (looked_at (length list.now)) list.now }
 {
-    let places = looked_at(list.len());
     let mut seen = Seen::begun();
-    for i in 0..places {
-        seen = seen.with(list[i]);
+    for controller in &list[..looked_at(list.len())] {
+        seen = seen.with(*controller);
     }
     seen
 }

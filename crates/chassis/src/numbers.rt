@@ -1,8 +1,8 @@
-// The paper's numbers of an answer (document 02, request 9): the refusals, and else document 01's reply and byte.
+// The paper's numbers of the refusals (document 02, request 9).
 ghost use Rattle.std.specs.Prelude.{◌≡◌};
-ghost use Rattle.chassis.specs.Numbers.{refusal_number, answer_refusal, answer_reply, answer_byte};
+ghost use Rattle.chassis.specs.Numbers.{refusal_number};
 
-use crate::{Answer, Refusal};
+use crate::Refusal;
 
 impl Refusal {
     pub fn number(self) -> u8
@@ -15,35 +15,6 @@ impl Refusal {
             Refusal::Absent => 10,
             Refusal::NotStarted => 3,
             Refusal::AddressTaken => 11,
-        }
-    }
-}
-
-impl Answer {
-    pub fn refusal(self) -> u8
-        ensures { result ≡ answer_refusal self }
-    {
-        match self {
-            Answer::Done(_) => 0,
-            Answer::Refused(refusal) => refusal.number(),
-        }
-    }
-
-    pub fn reply(self) -> u8
-        ensures { result ≡ answer_reply self }
-    {
-        match self {
-            Answer::Done(reply) => reply.number(),
-            Answer::Refused(_) => 0,
-        }
-    }
-
-    pub fn byte(self) -> u8
-        ensures { result ≡ answer_byte self }
-    {
-        match self {
-            Answer::Done(reply) => reply.byte(),
-            Answer::Refused(_) => 0,
         }
     }
 }

@@ -4,9 +4,9 @@ ghost use Rattle.chassis.specs.Chassis.{unanswered};
 ghost use Rattle.chassis.specs.Passing.{spoken, louder, set_out_of, gathered, reaches_by, passed_of, places_by, PassedAll};
 
 use crate::judge::names;
-use crate::{Errand, MOST, Passed, Round, Verdict};
+use crate::{Errand, MOST, Passed, Round};
 use bus::Reply;
-use dock::Controller;
+use dock::{Controller, Stepped, outputs_of, reply_in};
 use event::Event;
 
 // The reply where none ACKs and none drives.
@@ -27,8 +27,7 @@ fn spoken(first: Reply, second: Reply) -> Reply
     ensures { result ≡ spoken first second }
 {
     match second {
-        Reply::Ack => second,
-        Reply::Driven(_) => second,
+        Reply::Ack | Reply::Driven(_) => second,
         _ => first,
     }
 }
@@ -39,8 +38,7 @@ fn louder(first: Reply, second: Reply) -> Reply
     ensures { result ≡ louder first second }
 {
     match first {
-        Reply::Ack => first,
-        Reply::Driven(_) => first,
+        Reply::Ack | Reply::Driven(_) => first,
         _ => spoken(first, second),
     }
 }
@@ -54,9 +52,8 @@ impl Round {
         if place < MOST {
             let mut all = self.outputs;
             all[place] = outputs;
-            let before = self.reply;
             return Round {
-                reply: louder(before, reply),
+                reply: louder(self.reply, reply),
                 outputs: all,
                 place: place + 1,
             };
@@ -70,23 +67,20 @@ impl Errand {
     pub fn places(self, records: usize) -> usize
         ensures { result ≡ places_by self.verdict records }
     {
-        let verdict = self.verdict;
-        match verdict {
-            Verdict::Sent(_) => records,
-            Verdict::Refused(_) => 0,
+        match self.verdict {
+            Ok(_) => records,
+            Err(_) => 0,
         }
     }
 
     pub fn set_out(self) -> Round
         ensures { result ≡ set_out_of self }
     {
-        let verdict = self.verdict;
-        let reply = match verdict {
-            Verdict::Sent(event) => unanswered(event),
-            Verdict::Refused(_) => Reply::Nothing,
-        };
         Round {
-            reply,
+            reply: match self.verdict {
+                Ok(event) => unanswered(event),
+                Err(_) => Reply::Nothing,
+            },
             outputs: [0; MOST],
             place: 0,
         }
@@ -96,10 +90,9 @@ impl Errand {
     pub fn reaches(self, place: usize) -> bool
         ensures { result ≡ reaches_by self.verdict self.named place }
     {
-        let verdict = self.verdict;
-        match verdict {
-            Verdict::Sent(event) => !names(event) | (place == self.named),
-            Verdict::Refused(_) => false,
+        match self.verdict {
+            Ok(event) => !names(event) | (place == self.named),
+            Err(_) => false,
         }
     }
 
@@ -111,15 +104,13 @@ impl Errand {
         if !self.reaches(round.place) {
             return Passed {
                 controller,
-                round: round.gathered(Reply::Nothing, controller.outputs().value()),
+                round: round.gathered(Reply::Nothing, controller.outputs().unwrap_or(0)),
             };
         }
-        let stepped = controller.step(self.word);
-        let after = stepped.controller;
-        let answer = stepped.answer;
+        let Stepped { controller, answer } = controller.step(self.word);
         Passed {
-            controller: after,
-            round: round.gathered(answer.said(), answer.outputs()),
+            controller,
+            round: round.gathered(reply_in(answer), outputs_of(answer)),
         }
     }
 }
@@ -129,9 +120,9 @@ pub(crate) fn pass(list: &mut [Controller], errand: Errand) -> Round
 {
     let places = errand.places(list.len());
     let mut round = errand.set_out();
-    for i in 0..places {
-        let passed = errand.passed(round, list[i]);
-        list[i] = passed.controller;
+    for record in list[..places].iter_mut() {
+        let passed = errand.passed(round, *record);
+        *record = passed.controller;
         round = passed.round;
     }
     round

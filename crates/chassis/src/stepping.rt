@@ -5,7 +5,7 @@ ghost use Rattle.chassis.specs.Passing.{told_after};
 
 use crate::looking::look;
 use crate::passing::pass;
-use crate::{Answer, Errand, MOST, Round, Told, Verdict};
+use crate::{Errand, MOST, Round, Told};
 use dock::Controller;
 
 impl Errand {
@@ -13,18 +13,16 @@ impl Errand {
     pub fn told(self, round: Round) -> Told
         ensures { result ≡ told_after self.verdict round }
     {
-        let verdict = self.verdict;
-        match verdict {
-            Verdict::Sent(_) => {
-                let reply = round.reply;
+        match self.verdict {
+            Ok(_) => {
                 let outputs = round.outputs;
                 Told {
-                    answer: Answer::Done(reply),
+                    answer: Ok(round.reply),
                     outputs,
                 }
             }
-            Verdict::Refused(refusal) => Told {
-                answer: Answer::Refused(refusal),
+            Err(refusal) => Told {
+                answer: Err(refusal),
                 outputs: [0; MOST],
             },
         }
@@ -36,8 +34,7 @@ impl Errand {
 pub fn step(list: &mut [Controller], named: usize, word: u16) -> Told
     ensures { Called list.old named word list.new result }
 {
-    let seen = look(list);
-    let errand = seen.errand(list.len(), named, word);
+    let errand = look(list).errand(list.len(), named, word);
     let round = pass(list, errand);
     errand.told(round)
 }

@@ -5,28 +5,22 @@ use Rattle.kind.specs.Kind.{numbered}
 use Rattle.dock.specs.Step.{takes}
 use Prim.Native.Nat.{ℕ}
 use Rattle.event.specs.declared.Event.TheVariants.{Start, Stop, Byte, Take, Pins, Tick, Reset, Timeout}
-use Rattle.event.specs.declared.Unpacked.TheVariants.{Accepted, StrayBit as NoEvent}
 use Rattle.bus.specs.declared.Progress.TheVariants.{Idle, Opened, Addressed, Register, Data, Again, Reading, Writing, Sending}
-use Rattle.dock.specs.declared.Deed.TheVariants.{NoDeed, Does}
 use Rattle.dock.specs.declared.Turn.{Turn}
 use Rattle.dock.specs.Run.{Call, word, naming as names, after_calls}
 use Rattle.kind.specs.declared.Kind.TheVariants.{First, Second}
-use Rattle.kind.specs.declared.Numbered.TheVariants.{Names, Neither}
 use Rattle.demand.specs.Broken.{no_write, quiet, Breaks, pins, tick, naming, goes_on, spent, timeout, reset, BrokenOff, opened, struck, strike}
 use mathlib.Core.Bool.{Bool, ◌||◌, cond, false, true, true≢false}
 use Rattle.demand.specs.Bus.{Bus, bytes_in, fills}
 use Rattle.demand.proofs.Follows.{BusDeed, bus_deed, calls_run, run, turn_is, with}
 use Rattle.dock.specs.declared.Controller.{Controller}
-use Rattle.dock.specs.declared.Deed.{Deed}
 use Rattle.event.specs.declared.Event.{Event}
 use Rattle.demand.specs.Acts.{Happening, Is, event, name, a_byte, a_start, a_take, a_stop}
 use Rattle.kind.specs.declared.Kind.{Kind}
 use mathlib.Core.List.{List, [], ◌++◌, ◌∷◌}
 use Rattle.machine.specs.declared.Machine.{Machine}
-use Rattle.kind.specs.declared.Numbered.{Numbered}
 use Rattle.bus.specs.declared.Progress.{Progress}
 use Rattle.demand.proofs.Commands.{Stands, bus_lands, bus_turn, deed_acts, held_by, since_after}
-use Rattle.event.specs.declared.Unpacked.{Unpacked}
 use mathlib.Core.Path.{◌∙◌, ◌≡◌, ap, refl, subst, sym}
 use Rattle.demand.specs.Words.{accepted}
 use native.Mathlib.Omega.{arith}
@@ -41,6 +35,10 @@ use Rattle.machine.specs.InForce.{reading}
 use Rattle.demand.specs.Transfers.{second_completes, second_decides, second_goes_on}
 use Rattle.event.specs.Words.{unpacked}
 use Rattle.machine.specs.declared.Act.TheVariants as act
+use Rattle.std.specs.Prelude.{Result, Ok, Err, None, Option, Some}
+use Rattle.event.specs.declared.NoEvent.{NoEvent}
+use Rattle.machine.specs.declared.Act.{Act}
+use Rattle.kind.specs.declared.UnknownKind.{UnknownKind}
 
 -- A command with no bus events isn't open.
 pub none_open : (k : Kind) (straps : ℕ) (p : Progress) (v : ℕ) → Stands k straps p [] v → p ≡ Idle
@@ -78,15 +76,15 @@ no_write_lem First s es c q = first_no_write s es c
 no_write_lem Second s es c q = q
 
 -- What a deed that is no write leaves.
-left_by : (d : Deed) → BusDeed d → no_write (deed_acts d) ≡ true → (m : Machine) → done d m ≡ m
+left_by : (d : Option Act) → BusDeed d → no_write (deed_acts d) ≡ true → (m : Machine) → done d m ≡ m
 unfolding BusDeed does
-left_by NoDeed h n m = refl
-left_by (Does (act.Write r v)) h n m = absurd (true≢false (sym n))
-left_by (Does (act.Read r)) h n m = refl
-left_by (Does (act.Pins levels)) h n m = absurd h
-left_by (Does act.Tick) h n m = absurd h
-left_by (Does (act.Reset straps levels short)) h n m = absurd h
-left_by (Does (act.Name k)) h n m = absurd h
+left_by None h n m = refl
+left_by (Some (act.Write r v)) h n m = absurd (true≢false (sym n))
+left_by (Some (act.Read r)) h n m = refl
+left_by (Some (act.Pins levels)) h n m = absurd h
+left_by (Some act.Tick) h n m = absurd h
+left_by (Some (act.Reset straps levels short)) h n m = absurd h
+left_by (Some (act.Name k)) h n m = absurd h
 
 -- ---- a bus event of a command
 
@@ -154,30 +152,30 @@ broken_same m c (opened k) = breaks_same k m refl refl Opened 0 refl
 Strikes : List Call → Bool → Type 0
 Strikes cs begun = accepted begun (strike cs) ≡ struck (accepted begun cs)
 
-word_strike : (w : ℕ) (cs : List Call) → ((b : Bool) → Strikes cs b) → (u : Unpacked) → unpacked w ≡ u → (begun : Bool) → Strikes (word w ∷ cs) begun
+word_strike : (w : ℕ) (cs : List Call) → ((b : Bool) → Strikes cs b) → (u : Result Event NoEvent) → unpacked w ≡ u → (begun : Bool) → Strikes (word w ∷ cs) begun
 unfolding Strikes accepted strike struck takes
-word_strike w cs further NoEvent p begun = rw (p, p) (further begun)
-word_strike w cs further (Accepted Start) p true = rw p (further true)
-word_strike w cs further (Accepted Start) p false = rw p (further false)
-word_strike w cs further (Accepted Stop) p true = rw p (further true)
-word_strike w cs further (Accepted Stop) p false = rw p (further false)
-word_strike w cs further (Accepted (Byte b)) p true = rw p (further true)
-word_strike w cs further (Accepted (Byte b)) p false = rw p (further false)
-word_strike w cs further (Accepted (Take ack)) p true = rw p (further true)
-word_strike w cs further (Accepted (Take ack)) p false = rw p (further false)
-word_strike w cs further (Accepted (Pins levels)) p true = rw (p, p) (ap (λ l. event (Pins levels) ∷ l) (further true))
-word_strike w cs further (Accepted (Pins levels)) p false = rw (p, p) (further false)
-word_strike w cs further (Accepted Tick) p true = rw (p, p) (ap (λ l. event Tick ∷ l) (further true))
-word_strike w cs further (Accepted Tick) p false = rw (p, p) (further false)
-word_strike w cs further (Accepted (Reset straps levels short)) p true = rw (p, p) (ap (λ l. event (Reset straps levels short) ∷ l) (further true))
-word_strike w cs further (Accepted (Reset straps levels short)) p false = rw (p, p) (ap (λ l. event (Reset straps levels short) ∷ l) (further true))
-word_strike w cs further (Accepted Timeout) p true = rw (p, p) (ap (λ l. event Timeout ∷ l) (further true))
-word_strike w cs further (Accepted Timeout) p false = rw (p, p) (further false)
+word_strike w cs further (Err why) p begun = rw (p, p) (further begun)
+word_strike w cs further (Ok Start) p true = rw p (further true)
+word_strike w cs further (Ok Start) p false = rw p (further false)
+word_strike w cs further (Ok Stop) p true = rw p (further true)
+word_strike w cs further (Ok Stop) p false = rw p (further false)
+word_strike w cs further (Ok (Byte b)) p true = rw p (further true)
+word_strike w cs further (Ok (Byte b)) p false = rw p (further false)
+word_strike w cs further (Ok (Take ack)) p true = rw p (further true)
+word_strike w cs further (Ok (Take ack)) p false = rw p (further false)
+word_strike w cs further (Ok (Pins levels)) p true = rw (p, p) (ap (λ l. event (Pins levels) ∷ l) (further true))
+word_strike w cs further (Ok (Pins levels)) p false = rw (p, p) (further false)
+word_strike w cs further (Ok Tick) p true = rw (p, p) (ap (λ l. event Tick ∷ l) (further true))
+word_strike w cs further (Ok Tick) p false = rw (p, p) (further false)
+word_strike w cs further (Ok (Reset straps levels short)) p true = rw (p, p) (ap (λ l. event (Reset straps levels short) ∷ l) (further true))
+word_strike w cs further (Ok (Reset straps levels short)) p false = rw (p, p) (ap (λ l. event (Reset straps levels short) ∷ l) (further true))
+word_strike w cs further (Ok Timeout) p true = rw (p, p) (ap (λ l. event Timeout ∷ l) (further true))
+word_strike w cs further (Ok Timeout) p false = rw (p, p) (further false)
 
-name_strike : (n : ℕ) (cs : List Call) → ((b : Bool) → Strikes cs b) → (u : Numbered) → numbered n ≡ u → (begun : Bool) → Strikes (names n ∷ cs) begun
+name_strike : (n : ℕ) (cs : List Call) → ((b : Bool) → Strikes cs b) → (u : Result Kind UnknownKind) → numbered n ≡ u → (begun : Bool) → Strikes (names n ∷ cs) begun
 unfolding Strikes accepted strike struck
-name_strike n cs further (Names k) p begun = rw p (ap (λ l. name k ∷ l) (further begun))
-name_strike n cs further Neither p begun = rw p (further begun)
+name_strike n cs further (Ok k) p begun = rw p (ap (λ l. name k ∷ l) (further begun))
+name_strike n cs further (Err why) p begun = rw p (further begun)
 
 pub strike_accepted : (cs : List Call) (begun : Bool) → accepted begun (strike cs) ≡ struck (accepted begun cs)
 unfolding Strikes accepted strike struck

@@ -13,7 +13,6 @@ use lib.Seq.{ext_get_or}
 use Rattle.event.specs.Words.{unpacked}
 use Rattle.event.specs.declared.Event.{Event}
 use Rattle.event.specs.declared.Event.TheVariants.{Take}
-use Rattle.event.specs.declared.Unpacked.TheVariants.{Accepted}
 use Rattle.bus.specs.declared.Reply.{Reply}
 use Rattle.bus.specs.declared.Reply.TheVariants.{Nothing, Driven}
 use Rattle.bay.proofs.Taut.{pick}
@@ -24,13 +23,10 @@ use Rattle.dock.specs.Answers.{reply_in, told_value}
 use Rattle.dock.specs.Record.{fresh_controller}
 use Rattle.dock.specs.Run as alone
 use Rattle.dock.specs.Step.{step_of, takes, told_reading, told_outputs}
-use Rattle.dock.specs.declared.Answer.TheVariants.{NotStarted}
 use Rattle.dock.specs.declared.Controller.{Controller}
-use Rattle.dock.specs.declared.Told.TheVariants.{Value}
 use Rattle.chassis.specs.Chassis.{goes_to, reply_at, replies_from, records_from, shown, records_by, told_by, told_of}
 use Rattle.chassis.specs.Numbers.{answer_refusal}
 use Rattle.chassis.specs.Run.{ChassisCall, word, after_call}
-use Rattle.chassis.specs.declared.Answer.TheVariants.{Done}
 use Rattle.chassis.proofs.Accepting.{sent}
 use Rattle.chassis.proofs.AtPlace.{replies_length, reply_at_lem, shown_at}
 use Rattle.chassis.proofs.Hears.{OneDrives, one_drives}
@@ -43,6 +39,8 @@ use Rattle.demand.specs.Words.{accepted}
 use Rattle.demand.specs.Plain.{machine_after, read_by, plain_answer, to_event, reply_to, reply_by}
 use Rattle.demand.specs.Chassis.{begun, reached, own, heard_at, plain_at, reply_of_plain, plain_reply, each, plain_told}
 use Rattle.demand.proofs.Demand3.{after_every_event, read_at_the_deciding_event}
+use Rattle.std.specs.Prelude.{Ok, Err}
+use Rattle.dock.specs.declared.Refusal.TheVariants.{NotStarted}
 
 -- ---- the theorem
 
@@ -64,14 +62,14 @@ pub record EachAgrees (k : ℕ) (calls : List ChassisCall) : Type 0 where
   pub alone_is : (i : ℕ) → i < k → get_or (reached k calls) i fresh_controller ≡ alone.after_calls fresh_controller (own k calls i)
   pub machine : (i : ℕ) → i < k → (get_or (reached k calls) i fresh_controller).machine ≡ plain_at k calls i
   -- .. so that all 256 readings and the nine outputs agree ..
-  pub readings : (i : ℕ) → i < k → (a : ℕ) → told_reading (get_or (reached k calls) i fresh_controller) a ≡ Value (reading (plain_at k calls i) a)
-  pub nine_outputs : (i : ℕ) → i < k → told_outputs (get_or (reached k calls) i fresh_controller) ≡ Value (outputs (plain_at k calls i))
+  pub readings : (i : ℕ) → i < k → (a : ℕ) → told_reading (get_or (reached k calls) i fresh_controller) a ≡ Ok (reading (plain_at k calls i) a)
+  pub nine_outputs : (i : ℕ) → i < k → told_outputs (get_or (reached k calls) i fresh_controller) ≡ Ok (outputs (plain_at k calls i))
   -- .. and the whole answer of the chassis to a next word that isn't refused is made of the plain machines' answers ..
   pub answers :
-      (n w : ℕ) (e : Event) → unpacked w ≡ Accepted e → answer_refusal (told_of (reached k calls) n w).answer ≡ 0
+      (n w : ℕ) (e : Event) → unpacked w ≡ Ok e → answer_refusal (told_of (reached k calls) n w).answer ≡ 0
       → told_of (reached k calls) n w ≡ plain_told k calls e n w
   -- .. and each byte that the host reads is what one of them read at its deciding event.
-  pub bytes : (n w v : ℕ) → (told_of (reached k calls) n w).answer ≡ Done (Driven v) → ReadByOne k calls w v
+  pub bytes : (n w v : ℕ) → (told_of (reached k calls) n w).answer ≡ Ok (Driven v) → ReadByOne k calls w v
   -- No word is refused with 1.
   pub usable : (n w : ℕ) → answer_refusal (told_of (reached k calls) n w).answer ≢ 1
 
@@ -125,7 +123,7 @@ module _ (k : ℕ) (calls : List ChassisCall) where
 -- ---- the answer to a word that isn't refused
 
 told_so :
-    (k : ℕ) (calls : List ChassisCall) (n w : ℕ) (e : Event) → unpacked w ≡ Accepted e → answer_refusal (told_of (reached k calls) n w).answer ≡ 0
+    (k : ℕ) (calls : List ChassisCall) (n w : ℕ) (e : Event) → unpacked w ≡ Ok e → answer_refusal (told_of (reached k calls) n w).answer ≡ 0
     → told_of (reached k calls) n w ≡ plain_told k calls e n w
 unfolding plain_told told_by records_by after_call
 told_so k calls n w e u r =
@@ -136,13 +134,13 @@ told_so k calls n w e u r =
 -- ---- a byte that the host reads
 
 plain_take :
-    (cs : List alone.Call) (w v : ℕ) (ack : Bool) → unpacked w ≡ Accepted (Take ack) → reply_in (plain_answer cs w) ≡ Driven v
+    (cs : List alone.Call) (w v : ℕ) (ack : Bool) → unpacked w ≡ Ok (Take ack) → reply_in (plain_answer cs w) ≡ Driven v
     → reply_to (accepted false cs) (Take ack) ≡ Driven v
 unfolding plain_answer
 plain_take cs w v ack u d = go (takes (machine_after (accepted false cs)).started (Take ack)) (rw u at d)
   where
     go :
-        (t : Bool) → reply_in (cond t (to_event (accepted false cs) (Take ack)) NotStarted) ≡ Driven v
+        (t : Bool) → reply_in (cond t (to_event (accepted false cs) (Take ack)) (Err NotStarted)) ≡ Driven v
         → reply_to (accepted false cs) (Take ack) ≡ Driven v
     go true d = d
     go false d = let z : ◌≡◌ {A = ℕ} 0 1 = cc in absurd (omega arith)
@@ -154,7 +152,7 @@ take_reads past ack v =
     pick (λ (r : Reply). r ≡ Driven v → v ≡ read_by past) (is_going_on l.kind l.straps (with_event l (TAKE ack))) (λ t d. cc)
     (λ t d. let z : ◌≡◌ {A = ℕ} 0 1 = cc in absurd (omega arith))
 
-read_by_one : (k : ℕ) (calls : List ChassisCall) (n w v : ℕ) → (told_of (reached k calls) n w).answer ≡ Done (Driven v) → ReadByOne k calls w v
+read_by_one : (k : ℕ) (calls : List ChassisCall) (n w v : ℕ) → (told_of (reached k calls) n w).answer ≡ Ok (Driven v) → ReadByOne k calls w v
 read_by_one k calls n w v told =
     record {
       place = o.place;

@@ -1,8 +1,6 @@
 -- The controller's progress and the paper's description of an open command go hand in hand, in either kind: at each point of a command the bus
 -- events since its START are the ones that lead there, and each bus event takes both to the same next point, with the same act and the
 -- same reply. By cases on the point. Assumes nothing.
-use Rattle.dock.specs.declared.Deed.TheVariants.{NoDeed, Does}
-use Rattle.dock.specs.declared.Deed.{Deed}
 use Rattle.dock.specs.declared.Turn.{Turn}
 use Prim.Native.Nat.{ℕ, suc}
 use Rattle.bus.specs.declared.Reply.TheVariants.{Ack, Driven, NoAck, NotDriven, Nothing}
@@ -26,6 +24,7 @@ use Rattle.demand.proofs.Forms.{none_begins, on_more, bytes_more, last_more, len
 use Rattle.demand.specs.Transfers.{number_after, second_completes, second_decides, second_goes_on}
 use Rattle.demand.specs.Commands.{first_completes, first_decides, first_goes_on}
 use Rattle.machine.specs.declared.Act.TheVariants as act
+use Rattle.std.specs.Prelude.{None, Option, Some}
 
 -- The bus events that lead to a point of a command, for the controller with these straps, and the value that a read holds. No point of the
 -- other kind is come to.
@@ -57,19 +56,19 @@ bus_turn k s reads p STOP = stop_at k p
 bus_turn k s reads p (BYTE b) = byte_heard k reads (heard k s b p)
 bus_turn k s reads p (TAKE ack) = take_known k reads ack (known_to k p)
 
-abbrev pub deed_acts : Deed → List Act
-deed_acts NoDeed = []
-deed_acts (Does a) = a ∷ []
+abbrev pub deed_acts : Option Act → List Act
+deed_acts None = []
+deed_acts (Some a) = a ∷ []
 
 -- The value read last, then.
-abbrev pub held_by : (ℕ → ℕ) → ℕ → Deed → ℕ
-held_by reads v NoDeed = v
-held_by reads v (Does (act.Write r x)) = v
-held_by reads v (Does (act.Read r)) = reads r
-held_by reads v (Does (act.Pins levels)) = v
-held_by reads v (Does act.Tick) = v
-held_by reads v (Does (act.Reset straps levels short)) = v
-held_by reads v (Does (act.Name k)) = v
+abbrev pub held_by : (ℕ → ℕ) → ℕ → Option Act → ℕ
+held_by reads v None = v
+held_by reads v (Some (act.Write r x)) = v
+held_by reads v (Some (act.Read r)) = reads r
+held_by reads v (Some (act.Pins levels)) = v
+held_by reads v (Some act.Tick) = v
+held_by reads v (Some (act.Reset straps levels short)) = v
+held_by reads v (Some (act.Name k)) = v
 
 -- By the description.
 abbrev pub since_after : Kind → ℕ → List Bus → Bus → List Bus

@@ -7,23 +7,17 @@
 -- specs/. A list's every beginning is a list, so what is said of its end is said after every event. Assumes nothing.
 use Rattle.dock.specs.declared.Controller.{Controller}
 use Rattle.dock.specs.declared.Renamed.{Renamed}
-use Rattle.dock.specs.declared.Naming.{Naming}
-use Rattle.kind.specs.declared.Numbered.{Numbered}
 use Rattle.dock.specs.declared.Stepped.{Stepped}
 use Prim.Native.Nat.{ℕ, ◌*◌, ◌<◌}
 use mathlib.Core.Path.{◌≡◌, ap, sym, ◌∙◌, refl}
 use Rattle.event.specs.declared.Event.TheVariants.{Take}
 use Rattle.dock.specs.Step.{step_of, told_reading, told_outputs}
-use Rattle.dock.specs.declared.Told.TheVariants.{Value}
 use Rattle.kind.specs.Kind.{numbered}
-use Rattle.kind.specs.declared.Numbered.TheVariants.{Names, Neither}
-use Rattle.dock.specs.declared.Naming.TheVariants.{Stored, NoSuchKind}
 use Rattle.machine.specs.Record.{fresh_machine, fits}
 use Rattle.machine.proofs.Fit.{fresh_fit, fits_kept}
 use Rattle.dock.specs.Run.{Call, word, naming, after, answers_to, after_calls}
 use Rattle.demand.specs.Acts.{Happening, event, silent, line_after, decided, PassedOver, Line}
-use Rattle.batch.specs.Outcome.{outcome_count}
-use Rattle.batch.specs.declared.Outcome.TheVariants.{Done}
+use Rattle.calls.specs.Numbers.{outcome_count}
 use Rattle.batch.proofs.Theorems.{Alone, alone_or_batched}
 use Rattle.batch.specs.declared.Batched.{Batched}
 use Rattle.demand.proofs.Follows.{Beside, calls_beside, fresh_beside, word_answer}
@@ -33,7 +27,6 @@ use Rattle.event.specs.declared.Event.{Event}
 use mathlib.Core.List.{List, [], ◌++◌, ◌∷◌, map}
 use denote.Ref.{Bor}
 use denote.MutBor.{MutBor}
-use Rattle.dock.specs.declared.Told.{Told}
 use Rattle.demand.specs.Words.{accepted}
 use Rattle.demand.specs.Plain.{acts_after, machine_after, plain_answer, reply_to}
 use Rattle.dock.proofs.Run.{calls_append, words_calls}
@@ -57,21 +50,27 @@ use Rattle.dock.proofs.Controller.name.Reads as name_call
 use Rattle.dock.proofs.Controller.reading.Reads as reading_call
 use Rattle.dock.proofs.Controller.outputs.Reads as outputs_call
 use Rattle.batch.proofs.batch.Reads as batch_call
+use Rattle.dock.specs.declared.Refusal.{Refusal}
+use Rattle.std.specs.Prelude.{Ok, Result, Err}
+use Rattle.dock.specs.declared.NamingRefusal.TheVariants.{NoSuchKind}
+use Rattle.dock.specs.declared.NamingRefusal.{NamingRefusal}
+use Rattle.kind.specs.declared.Kind.{Kind}
+use Rattle.kind.specs.declared.UnknownKind.{UnknownKind}
 
 -- ---- the theorem
 
 -- What a number answers as a name.
-abbrev pub named_as : Numbered → Naming
-named_as (Names k) = Stored
-named_as Neither = NoSuchKind
+abbrev pub named_as : Result Kind UnknownKind → Result (Unit {0}) NamingRefusal
+named_as (Ok k) = Ok tt
+named_as (Err why) = Err NoSuchKind
 
 -- The controller after calls on a fresh one, and the plain machine after the acts of what was accepted of them.
 pub record Agrees (cs : List Call) : Type 0 where
   -- The machine inside is the plain machine ..
   pub machine : (after_calls fresh_controller cs).machine ≡ machine_after (accepted false cs)
   -- .. so that all 256 readings and the nine outputs agree ..
-  pub readings : (a : ℕ) → told_reading (after_calls fresh_controller cs) a ≡ Value (reading (machine_after (accepted false cs)) a)
-  pub nine_outputs : told_outputs (after_calls fresh_controller cs) ≡ Value (outputs (machine_after (accepted false cs)))
+  pub readings : (a : ℕ) → told_reading (after_calls fresh_controller cs) a ≡ Ok (reading (machine_after (accepted false cs)) a)
+  pub nine_outputs : told_outputs (after_calls fresh_controller cs) ≡ Ok (outputs (machine_after (accepted false cs)))
   -- .. and the answer to any next word, its refusal, reply, byte and outputs, is the plain machine's ..
   pub answers : (w : ℕ) → (step_of (after_calls fresh_controller cs) w).answer ≡ plain_answer cs w
   -- .. and a number is refused as a name exactly if it is of neither kind.
@@ -98,9 +97,9 @@ after_every_event cs =
       names = λ n. rw f (by_number (numbered n));
     }
   where
-    by_number : (u : Numbered) → (name_fit (after_calls fresh_controller cs) u).naming ≡ named_as u
-    by_number (Names k) = refl
-    by_number Neither = refl
+    by_number : (u : Result Kind UnknownKind) → (name_fit (after_calls fresh_controller cs) u).naming ≡ named_as u
+    by_number (Ok k) = refl
+    by_number (Err why) = refl
 
 -- ---- from any point on
 
@@ -172,8 +171,8 @@ pub record Single (cs : List Call) (s : Controller) : Type 0 where
   pub machine : s.machine ≡ machine_after (accepted false cs)
   pub answers : (w : ℕ) (r : Stepped) → step_call.Post tt (s, (w, tt)) r (s, (w, tt)) → r.answer ≡ plain_answer cs w
   pub names : (n : ℕ) (r : Renamed) → name_call.Post tt (s, (n, tt)) r (s, (n, tt)) → r.naming ≡ named_as (numbered n)
-  pub readings : (a : ℕ) (r : Told) → reading_call.Post tt (s, (a, tt)) r (s, (a, tt)) → r ≡ Value (reading (machine_after (accepted false cs)) a)
-  pub nine_outputs : (r : Told) → outputs_call.Post tt (s, tt) r (s, tt) → r ≡ Value (outputs (machine_after (accepted false cs)))
+  pub readings : (a : ℕ) (r : Result ℕ Refusal) → reading_call.Post tt (s, (a, tt)) r (s, (a, tt)) → r ≡ Ok (reading (machine_after (accepted false cs)) a)
+  pub nine_outputs : (r : Result ℕ Refusal) → outputs_call.Post tt (s, tt) r (s, tt) → r ≡ Ok (outputs (machine_after (accepted false cs)))
 
 called_is : {cs : List Call} {s : Controller} → Called cs s → s ≡ after_calls fresh_controller cs
 unfolding after_calls
@@ -210,7 +209,7 @@ words_after {cs} {s} c ws = sym (words_calls s ws) ∙ ap (λ t. after_calls t (
 
 pub compiled_batch :
     {cs : List Call} {s : Controller} → Called cs s → (κs : _) (words : Bor (List ℕ)) (records left : MutBor (List ℕ)) (r : Batched) (n : ℕ)
-    → outcome_of s (length words.now) (length records.now) ≡ Done n
+    → outcome_of s (length words.now) (length records.now) ≡ Ok n
     → batch_call.Post κs (s, (words, (records, tt))) r (s, (words, (left, tt))) → Batch cs words.now records.now r left.now
 compiled_batch {cs} {s} c κs words records left r n e p =
     let b : Alone s words.now records.now r left.now = rw (p.0, p.1) (alone_or_batched s words.now records.now n e) in

@@ -6,7 +6,6 @@ use Prim.Native.Nat.{ℕ}
 use Rattle.event.specs.declared.Event.TheVariants.{Start, Stop, Byte, Take, Pins, Tick, Reset, Timeout}
 use Rattle.bus.specs.declared.Heard.TheVariants.{On, Write, Read, End}
 use Rattle.bus.specs.declared.Progress.TheVariants.{Idle, Opened, Addressed, Register, Data, Again, Reading, Writing, Sending}
-use Rattle.dock.specs.declared.Deed.TheVariants.{NoDeed, Does}
 use Rattle.dock.specs.declared.Turn.{Turn}
 use Rattle.demand.specs.Bus.{Bus, START, STOP, BYTE, TAKE}
 use Rattle.bus.specs.declared.Reply.TheVariants.{Ack, Driven}
@@ -34,6 +33,7 @@ use Rattle.bay.proofs.Taut.{pick}
 use Rattle.machine.specs.InForce.{reading}
 use Rattle.dock.proofs.Decided.{take_gives}
 use Rattle.machine.specs.declared.Act.TheVariants as act
+use Rattle.std.specs.Prelude.{Some, None}
 
 -- ---- a bus event that decides a read
 
@@ -45,7 +45,7 @@ read_holds : (k : Kind) (reads : ℕ → ℕ) (n r : ℕ) (reply : Reply) → Ho
 unfolding Holds read_at
 read_holds k reads n r reply e = let same : n ≡ r = cc in rw same
 
-stop_holds : (k : Kind) (reads : ℕ → ℕ) (r : ℕ) (p : Progress) → deed_acts (at_stop Does NoDeed p) ≡ act.Read r ∷ [] → Idle ≡ holding k r (reads r)
+stop_holds : (k : Kind) (reads : ℕ → ℕ) (r : ℕ) (p : Progress) → deed_acts (at_stop Some None p) ≡ act.Read r ∷ [] → Idle ≡ holding k r (reads r)
 stop_holds k reads r Idle e = absurd (omega (arith, ap length e))
 stop_holds k reads r Opened e = absurd (omega (arith, ap length e))
 stop_holds k reads r Addressed e = absurd (omega (arith, ap length e))

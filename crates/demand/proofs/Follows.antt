@@ -2,30 +2,24 @@
 -- either. Assumes nothing.
 use Prim.Native.Nat.{ℕ}
 use Rattle.event.specs.declared.Event.TheVariants.{Start, Stop, Byte, Take, Pins, Tick, Reset, Timeout}
-use Rattle.event.specs.declared.Unpacked.TheVariants.{Accepted, StrayBit as NoEvent}
 use Rattle.bus.specs.declared.Heard.TheVariants.{On, Write, Read, End}
 use Rattle.bus.specs.declared.Progress.TheVariants.{Idle, Opened, Addressed, Register, Data, Again, Reading, Writing, Sending}
-use Rattle.kind.specs.declared.Numbered.TheVariants.{Names, Neither}
-use Rattle.dock.specs.declared.Deed.TheVariants.{NoDeed, Does}
 use Rattle.dock.specs.declared.Turn.{Turn}
 use Rattle.dock.specs.Step.{takes, step_fit, step_of}
 use Rattle.dock.specs.Run.{Call, word, naming, after_calls}
 use Rattle.machine.specs.Record.{fits, fresh_machine}
 use Rattle.demand.specs.Acts.{Happening, event, name, Is, a_start, a_stop, a_byte, a_take, Line, silent, having, on_bus, hears, decided, meets, acts_at, line_after, acts_of}
-use Rattle.kind.specs.Kind.{numbered}
+use Rattle.kind.specs.Kind.{numbered, unknown_kind}
 use Rattle.demand.specs.Bus.{START, STOP, BYTE, Bus, TAKE}
 use mathlib.Core.Bool.{Bool, false, true, cond}
 use Rattle.dock.specs.declared.Controller.{Controller}
-use Rattle.dock.specs.declared.Deed.{Deed}
 use Rattle.event.specs.declared.Event.{Event}
 use Rattle.bus.specs.declared.Heard.{Heard}
 use Rattle.kind.specs.declared.Kind.{Kind}
 use mathlib.Core.List.{List, [], ◌++◌, ◌∷◌, append_assoc, append-nil}
 use Rattle.machine.specs.declared.Machine.{Machine}
-use Rattle.kind.specs.declared.Numbered.{Numbered}
 use Rattle.bus.specs.declared.Progress.{Progress}
 use Rattle.demand.proofs.Commands.{Stands, bus_lands, bus_turn, deed_acts, held_by, reply_bus}
-use Rattle.event.specs.declared.Unpacked.{Unpacked}
 use mathlib.Core.Path.{◌∙◌, ◌≡◌, ap, refl, subst, sym}
 use Rattle.demand.specs.Words.{accepted, keep, keep_name}
 use Rattle.event.proofs.Straps.{accepted_straps}
@@ -45,6 +39,11 @@ use Rattle.dock.proofs.Kept.{taken_started}
 use Rattle.event.specs.Words.{unpacked}
 use Rattle.machine.proofs.Addresses.{write_steady}
 use Rattle.machine.specs.declared.Act.TheVariants as act
+use Rattle.std.specs.Prelude.{Result, Ok, Err, None, Option, Some}
+use Rattle.event.specs.declared.NoEvent.{NoEvent}
+use Rattle.event.specs.Words.{no_event}
+use Rattle.machine.specs.declared.Act.{Act}
+use Rattle.kind.specs.declared.UnknownKind.{UnknownKind}
 
 -- ---- a bus event
 
@@ -56,16 +55,16 @@ abbrev pub with : Machine → Progress → Controller
 with m p = record { machine = m; progress = p }
 
 -- What a bus event has the machine do is a write, a read or nothing, and leaves its straps and kinds.
-unfoldable pub BusDeed : Deed → Type 0
-BusDeed NoDeed = Unit {0}
-BusDeed (Does (act.Write r v)) = Unit {0}
-BusDeed (Does (act.Read r)) = Unit {0}
-BusDeed (Does (act.Pins levels)) = ⊥
-BusDeed (Does act.Tick) = ⊥
-BusDeed (Does (act.Reset straps levels short)) = ⊥
-BusDeed (Does (act.Name k)) = ⊥
+unfoldable pub BusDeed : Option Act → Type 0
+BusDeed None = Unit {0}
+BusDeed (Some (act.Write r v)) = Unit {0}
+BusDeed (Some (act.Read r)) = Unit {0}
+BusDeed (Some (act.Pins levels)) = ⊥
+BusDeed (Some act.Tick) = ⊥
+BusDeed (Some (act.Reset straps levels short)) = ⊥
+BusDeed (Some (act.Name k)) = ⊥
 
-stop_deed_lem : (p : Progress) → BusDeed (at_stop Does NoDeed p)
+stop_deed_lem : (p : Progress) → BusDeed (at_stop Some None p)
 unfolding BusDeed
 stop_deed_lem Idle = tt
 stop_deed_lem Opened = tt
@@ -108,30 +107,30 @@ record Same (m n : Machine) : Type 0 where
   kind : n.kind ≡ m.kind
   named : n.named ≡ m.named
 
-deed_same : (d : Deed) → BusDeed d → (m : Machine) → Same m (done d m)
+deed_same : (d : Option Act) → BusDeed d → (m : Machine) → Same m (done d m)
 unfolding BusDeed does
-deed_same NoDeed h m = record { straps = refl; kind = refl; named = refl }
-deed_same (Does (act.Write r v)) h m = let w = write_steady r v m in record { straps = w.straps; kind = w.kind; named = w.named }
-deed_same (Does (act.Read r)) h m = record { straps = refl; kind = refl; named = refl }
-deed_same (Does (act.Pins levels)) h m = absurd h
-deed_same (Does act.Tick) h m = absurd h
-deed_same (Does (act.Reset straps levels short)) h m = absurd h
-deed_same (Does (act.Name k)) h m = absurd h
+deed_same None h m = record { straps = refl; kind = refl; named = refl }
+deed_same (Some (act.Write r v)) h m = let w = write_steady r v m in record { straps = w.straps; kind = w.kind; named = w.named }
+deed_same (Some (act.Read r)) h m = record { straps = refl; kind = refl; named = refl }
+deed_same (Some (act.Pins levels)) h m = absurd h
+deed_same (Some act.Tick) h m = absurd h
+deed_same (Some (act.Reset straps levels short)) h m = absurd h
+deed_same (Some (act.Name k)) h m = absurd h
 
-done_acts : (d : Deed) (m : Machine) → done d m ≡ does_all (deed_acts d) m
+done_acts : (d : Option Act) (m : Machine) → done d m ≡ does_all (deed_acts d) m
 unfolding does_all
-done_acts NoDeed m = refl
-done_acts (Does a) m = refl
+done_acts None m = refl
+done_acts (Some a) m = refl
 
-held_read : (v : ℕ) (d : Deed) (m : Machine) → held_by (reading m) v d ≡ last_read v (deed_acts d) m
+held_read : (v : ℕ) (d : Option Act) (m : Machine) → held_by (reading m) v d ≡ last_read v (deed_acts d) m
 unfolding last_read
-held_read v NoDeed m = refl
-held_read v (Does (act.Write r x)) m = refl
-held_read v (Does (act.Read r)) m = refl
-held_read v (Does (act.Pins levels)) m = refl
-held_read v (Does act.Tick) m = refl
-held_read v (Does (act.Reset straps levels short)) m = refl
-held_read v (Does (act.Name k)) m = refl
+held_read v None m = refl
+held_read v (Some (act.Write r x)) m = refl
+held_read v (Some (act.Read r)) m = refl
+held_read v (Some (act.Pins levels)) m = refl
+held_read v (Some act.Tick) m = refl
+held_read v (Some (act.Reset straps levels short)) m = refl
+held_read v (Some (act.Name k)) m = refl
 
 -- ---- every event
 
@@ -289,13 +288,13 @@ pub word_answer : (s : Controller) (past : List Happening) → Beside s past →
 unfolding step_of
 word_answer s past h f w = rw f (go (unpacked w))
   where
-    by_test : (e : Event) (t : Bool) → takes s.machine.started e ≡ t → (step_fit s (Accepted e)).answer ≡ to_word past (Accepted e)
+    by_test : (e : Event) (t : Bool) → takes s.machine.started e ≡ t → (step_fit s (Ok e)).answer ≡ to_word past (Ok e)
     by_test e true k = rw (k, ← h.machine, k, next_reply s past h e, next_machine s past h e)
     by_test e false k = rw (k, ← h.machine, k)
 
-    go : (u : Unpacked) → (step_fit s u).answer ≡ to_word past u
-    go NoEvent = rw h.machine
-    go (Accepted e) = by_test e (takes s.machine.started e) refl
+    go : (u : Result Event NoEvent) → (step_fit s u).answer ≡ to_word past u
+    go (Err why) = rw h.machine
+    go (Ok e) = by_test e (takes s.machine.started e) refl
 
 -- ---- a list of calls
 
@@ -322,30 +321,30 @@ Runs : List Call → Controller → Type 0
 Runs cs s = after_calls s cs ≡ run s (accepted s.machine.started cs)
 
 -- What a word that is refused, and one that is taken, leaves of a fit controller.
-stray_stays : (w : ℕ) (s : Controller) → fits s.machine ≡ true → unpacked w ≡ NoEvent → (step_of s w).controller ≡ s
+stray_stays : (w : ℕ) (s : Controller) → fits s.machine ≡ true → unpacked w ≡ Err no_event → (step_of s w).controller ≡ s
 unfolding step_of
 stray_stays w s f p = rw (f, p)
 
 early_stays :
-    (w : ℕ) (s : Controller) (e : Event) → fits s.machine ≡ true → unpacked w ≡ Accepted e → takes s.machine.started e ≡ false → (step_of s w).controller ≡ s
+    (w : ℕ) (s : Controller) (e : Event) → fits s.machine ≡ true → unpacked w ≡ Ok e → takes s.machine.started e ≡ false → (step_of s w).controller ≡ s
 unfolding step_of
 early_stays w s e f p k = rw (f, p, k)
 
 taken_goes :
-    (w : ℕ) (s : Controller) (e : Event) → fits s.machine ≡ true → unpacked w ≡ Accepted e → takes s.machine.started e ≡ true → (step_of s w).controller ≡ next s e
+    (w : ℕ) (s : Controller) (e : Event) → fits s.machine ≡ true → unpacked w ≡ Ok e → takes s.machine.started e ≡ true → (step_of s w).controller ≡ next s e
 unfolding step_of
 taken_goes w s e f p k = rw (f, p, k)
 
 word_run :
     (w : ℕ) (cs : List Call) (s : Controller) → fits s.machine ≡ true → ((t : Controller) → fits t.machine ≡ true → Runs cs t)
-    → (u : Unpacked) → unpacked w ≡ u → Runs (word w ∷ cs) s
+    → (u : Result Event NoEvent) → unpacked w ≡ u → Runs (word w ∷ cs) s
 unfolding Runs after_calls run accepted
-word_run w cs s f further NoEvent p =
+word_run w cs s f further (Err no_event) p =
     ap (λ t. after_calls t cs) (stray_stays w s f p) ∙ further s f
     ∙ ap (λ u. run s (keep s.machine.started u (accepted true cs) (accepted s.machine.started cs))) (sym p)
-word_run w cs s f further (Accepted e) p = by_test (takes s.machine.started e) refl
+word_run w cs s f further (Ok e) p = by_test (takes s.machine.started e) refl
   where
-    now : Unpacked → Controller
+    now : Result Event NoEvent → Controller
     now u = run s (keep s.machine.started u (accepted true cs) (accepted s.machine.started cs))
 
     by_test : (t : Bool) → takes s.machine.started e ≡ t → after_calls (step_of s w).controller cs ≡ now (unpacked w)
@@ -360,19 +359,19 @@ word_run w cs s f further (Accepted e) p = by_test (takes s.machine.started e) r
         ∙ sym (ap now p ∙ ap (λ t. run s (cond t (event e ∷ accepted true cs) (accepted s.machine.started cs))) k)
 
 -- What a name leaves.
-name_goes : (n : ℕ) (s : Controller) (u : Numbered) → fits s.machine ≡ true → numbered n ≡ u → (name_of s n).controller ≡ (name_fit s u).controller
+name_goes : (n : ℕ) (s : Controller) (u : Result Kind UnknownKind) → fits s.machine ≡ true → numbered n ≡ u → (name_of s n).controller ≡ (name_fit s u).controller
 unfolding name_of
 name_goes n s u f p = rw (f, p)
 
 name_run :
     (n : ℕ) (cs : List Call) (s : Controller) → fits s.machine ≡ true → ((t : Controller) → fits t.machine ≡ true → Runs cs t)
-    → (u : Numbered) → numbered n ≡ u → Runs (naming n ∷ cs) s
+    → (u : Result Kind UnknownKind) → numbered n ≡ u → Runs (naming n ∷ cs) s
 unfolding Runs after_calls run accepted does name_to
-name_run n cs s f further (Names k) p =
-    ap (λ t. after_calls t cs) (name_goes n s (Names k) f p) ∙ further (named_to k s) (name_fits k s.machine f)
+name_run n cs s f further (Ok k) p =
+    ap (λ t. after_calls t cs) (name_goes n s (Ok k) f p) ∙ further (named_to k s) (name_fits k s.machine f)
     ∙ ap (λ u. run s (keep_name u (accepted s.machine.started cs))) (sym p)
-name_run n cs s f further Neither p =
-    ap (λ t. after_calls t cs) (name_goes n s Neither f p) ∙ further s f ∙ ap (λ u. run s (keep_name u (accepted s.machine.started cs))) (sym p)
+name_run n cs s f further (Err unknown_kind) p =
+    ap (λ t. after_calls t cs) (name_goes n s (Err unknown_kind) f p) ∙ further s f ∙ ap (λ u. run s (keep_name u (accepted s.machine.started cs))) (sym p)
 
 pub calls_run : (cs : List Call) (s : Controller) → fits s.machine ≡ true → after_calls s cs ≡ run s (accepted s.machine.started cs)
 unfolding Runs after_calls run accepted

@@ -22,7 +22,6 @@ use Rattle.dock.proofs.OpenRead.{driven_by, as_a_take}
 use Rattle.batch.specs.Batch.{outcome_of, state_by, buffer_after}
 use Rattle.batch.specs.Decode.{number_of}
 use Rattle.batch.specs.Record.{record_of}
-use Rattle.batch.specs.declared.Outcome.TheVariants.{Done, TooFewBytes, TooManyWords}
 use Rattle.batch.proofs.Theorems.{alone_or_batched}
 use Rattle.image.specs.Layout.{BYTES}
 use Rattle.image.specs.Save.{saved}
@@ -42,6 +41,8 @@ use Rattle.demand.specs.Words.{accepted}
 use Rattle.demand.specs.Plain.{machine_after, plain_answer}
 use Rattle.demand.specs.Held.{taken}
 use Rattle.demand.proofs.Demand3.{after_every_event, reached_fit, named_as as answer_to}
+use Rattle.calls.specs.declared.Refusal.TheVariants.{TooFewPlaces, TooMany}
+use Rattle.std.specs.Prelude.{Err, Ok}
 
 -- Calls one after the other, each of which answered and left its bytes as its contract says: the words and names that they took, and the
 -- bytes. A question leaves the bytes, so it needs no place here.
@@ -66,7 +67,7 @@ taken_state s ws room f = rw f (go (ltb 16384 (length ws)) (ltb room (4 * length
   where
     go :
         (m b : Bool)
-        → state_by (cond m TooManyWords (cond b TooFewBytes (Done (length ws)))) s ws ≡ after s (cond m [] (cond b [] ws))
+        → state_by (cond m (Err TooMany) (cond b (Err TooFewPlaces) (Ok (length ws)))) s ws ≡ after s (cond m [] (cond b [] ws))
     go true b = refl
     go false true = refl
     go false false = refl
@@ -126,7 +127,7 @@ pub record Agrees (cs : List Call) (bytes : List ℕ) : Type 0 where
       → (r ≡ held_as (driven_by (plain_answer cs 0x6000))) × (r ≡ held_as (driven_by (plain_answer cs 0x6001)))
 
 module _ (cs : List Call) where
-  has_room : (words : List ℕ) (room : ℕ) → length words ≤ 16384 → 4 * length words ≤ room → outcome_of (reached cs) (length words) room ≡ Done (length words)
+  has_room : (words : List ℕ) (room : ℕ) → length words ≤ 16384 → 4 * length words ≤ room → outcome_of (reached cs) (length words) room ≡ Ok (length words)
   unfolding outcome_of
   has_room words room m b = rw (reached_fit cs, le-ltb 16384 (length words) m, le-ltb room (4 * length words) b) refl
 

@@ -8,7 +8,6 @@ use lib.ListN.{get_or, set, length-replicate, get_or-replicate}
 use denote.MutBor.{MutBor}
 use Rattle.event.specs.Words.{unpacked}
 use Rattle.event.specs.declared.Event.{Event}
-use Rattle.event.specs.declared.Unpacked.TheVariants.{Accepted}
 use Rattle.dock.specs.Record.{fresh_controller}
 use Rattle.dock.specs.declared.Controller.{Controller}
 use Rattle.dock.specs.declared.Renamed.{Renamed}
@@ -24,6 +23,7 @@ use Rattle.dock.proofs.Controller.name.Reads as name_call
 use Rattle.link.proofs.lists.dock_chassis_step.Reads as chassis_call
 use Rattle.demand.specs.Chassis.{begun, reached, plain_told}
 use Rattle.demand.proofs.Chassis.{each_agrees}
+use Rattle.std.specs.Prelude.{Ok}
 
 -- ---- a lent list
 
@@ -42,7 +42,7 @@ pub data OnList (k : ℕ) : List ChassisCall → List Controller → Type 0 wher
 pub record ListAgrees (k : ℕ) (calls : List ChassisCall) (cs : List Controller) : Type 0 where
   pub list : cs ≡ reached k calls
   pub answers :
-      (n w : ℕ) (e : Event) (left : List Controller) (told : Told) → Called cs n w left told → unpacked w ≡ Accepted e → answer_refusal told.answer ≡ 0
+      (n w : ℕ) (e : Event) (left : List Controller) (told : Told) → Called cs n w left told → unpacked w ≡ Ok e → answer_refusal told.answer ≡ 0
       → told ≡ plain_told k calls e n w
 
 list_is : {k : ℕ} {calls : List ChassisCall} {cs : List Controller} → OnList k calls cs → cs ≡ reached k calls
@@ -78,7 +78,7 @@ pub record BytesAgree (k : ℕ) (calls : List ChassisCall) (bytes : List ℕ) : 
       (κs : _) (states left : MutBor (List ℕ)) (n w r : ℕ) → states.now ≡ bytes → chassis_call.Post κs (states, (n, (w, tt))) r (left, (n, (w, tt)))
       → r ≡ chassis_as (told_of (reached k calls) n w)
   pub plain :
-      (n w : ℕ) (e : Event) → unpacked w ≡ Accepted e → answer_refusal (told_of (reached k calls) n w).answer ≡ 0
+      (n w : ℕ) (e : Event) → unpacked w ≡ Ok e → answer_refusal (told_of (reached k calls) n w).answer ≡ 0
       → told_of (reached k calls) n w ≡ plain_told k calls e n w
 
 reached_shaped : (k : ℕ) (calls : List ChassisCall) → AllShaped (reached k calls)

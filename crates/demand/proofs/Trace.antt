@@ -7,7 +7,6 @@ use Prim.Native.Nat.{ℕ}
 use Rattle.machine.specs.declared.Act.TheVariants.{Write, Read, Reset, Name}
 use Rattle.kind.specs.declared.Kind.TheVariants.{Second}
 use Rattle.second.specs.Record.{fresh as fresh_second, reset as reset_second}
-use Rattle.dock.specs.declared.Answer.TheVariants.{Done}
 use Rattle.bus.specs.declared.Reply.TheVariants.{Driven}
 use mathlib.Core.List.{List, [], ◌++◌, ◌∷◌, map}
 use mathlib.Core.Path.{◌≡◌, refl}
@@ -36,6 +35,7 @@ use Rattle.dock.specs.Run.{naming, word}
 use Rattle.second.specs.Once.{after_subsystem_write}
 use Rattle.second.specs.Sfr.{pulsed, wait_ticks_of, pulse_ticks_of as sfr_pulse}
 use Rattle.machine.specs.SecondKind.{second_register, second_registers, second_writes, second_written, subsystem_at, subsystem_write}
+use Rattle.dock.specs.Answers.{done_with}
 
 -- All words but the last.
 abbrev words : List ℕ
@@ -43,7 +43,7 @@ words = 0xC0BF ∷ 0x0000 ∷ 0x4090 ∷ 0x4014 ∷ 0x4004 ∷ 0x2000 ∷ 0x0000
 
 pub record AsPrinted : Type 0 where
   pub its_acts : acts_of silent (accepted false (map word (words ++ (0x6000 ∷ [])))) ≡ Reset 0 0xBF false ∷ Write 0x14 0x04 ∷ Read 0x10 ∷ []
-  pub its_last_answer : plain_answer (map word words) 0x6000 ≡ Done (Driven 0x15) 0x041
+  pub its_last_answer : plain_answer (map word words) 0x6000 ≡ done_with (Driven 0x15) 0x041
 
 pub trace_as_printed : AsPrinted
 unfolding unpacked accepted takes silent on_bus hears decided meets acts_at line_after acts_of is_going_on completes decides first_goes_on first_completes first_decides own_write_byte own_read_byte machine_after last_read read_by reply_by reply_to plain_answer does does_all fresh_machine fresh_second reset_second lock_after_reset letr_after_reset count_after_reset reset_as lock_def lock_mode reset_bay contact present in_use bstr_of control_of asks request_written finds state_written pulse_written controlled_bay lock_pin green yellow bay_outputs interrupts bay_in placed open_by hides secured is_lit nibble wants outputs bstr_at first_registers first_register register reading pulse_ticks_of first_setting setting_of bcer_write first_writes first_written written
@@ -57,7 +57,7 @@ pub record SecondAsPrinted : Type 0 where
   pub its_acts :
       acts_of silent (accepted false (naming 2 ∷ map word (second_words ++ (0x6001 ∷ 0x6001 ∷ 0x6000 ∷ 0x6000 ∷ []))))
       ≡ Name Second ∷ Reset 0 0xFF false ∷ Write 0x0B 0x77 ∷ Write 0x0C 0x12 ∷ Write 0x0D 0x55 ∷ Read 0x0A ∷ Read 0x0B ∷ Read 0x0C ∷ Read 0x0D ∷ []
-  pub its_second_take : plain_answer (naming 2 ∷ map word second_words) 0x6001 ≡ Done (Driven 0x77) 0x000
+  pub its_second_take : plain_answer (naming 2 ∷ map word second_words) 0x6001 ≡ done_with (Driven 0x77) 0x000
 
 pub second_trace_as_printed : SecondAsPrinted
 unfolding unpacked accepted takes numbered silent on_bus hears decided meets acts_at line_after acts_of is_going_on completes decides first_goes_on first_completes first_decides second_goes_on second_completes second_decides own_write_byte own_read_byte machine_after last_read read_by reply_by reply_to plain_answer does does_all name_to fresh_machine fresh_second reset_second lock_after_reset letr_after_reset count_after_reset reset_as reset_bay contact present in_use bay_outputs lock_pin green yellow interrupts bay_in open_by hides secured is_lit nibble wants outputs second_registers second_register register reading subsystem_at after_subsystem_write subsystem_write dbccr_write dbccr_stored count_written dbccr_of second_setting setting_of second_writes second_written written pulsed wait_ticks_of sfr_pulse

@@ -14,7 +14,6 @@ use Rattle.kind.specs.declared.Kind.TheVariants.{First, Second}
 use Rattle.event.specs.Words.{unpacked, word_of}
 use Rattle.event.specs.declared.Event.{Event}
 use Rattle.event.specs.declared.Event.TheVariants.{Start, Stop, Byte, Take}
-use Rattle.event.specs.declared.Unpacked.TheVariants.{Accepted}
 use Rattle.machine.specs.Acts.{does, does_all}
 use Rattle.machine.specs.InForce.{reading}
 use Rattle.machine.specs.declared.Machine.{Machine}
@@ -23,7 +22,6 @@ use Rattle.bus.specs.Progress.{own_write_byte, own_read_byte}
 use Rattle.bus.specs.declared.Reply.TheVariants.{Driven}
 use Rattle.dock.specs.Record.{fresh_controller}
 use Rattle.dock.specs.Step.{takes, step_of}
-use Rattle.dock.specs.declared.Answer.TheVariants.{Done}
 use Rattle.machine.specs.Outputs.{outputs}
 use Rattle.dock.specs.Run.{Call, word, after_calls}
 use Rattle.dock.proofs.Run.{calls_append}
@@ -43,17 +41,19 @@ use Rattle.demand.specs.Plain.{acts_after, machine_after, reply_to, to_word}
 use Rattle.demand.proofs.Lists.{line_append, machine_append}
 use Rattle.demand.proofs.Follows.{calls_beside, word_answer}
 use Rattle.demand.proofs.Demand3.{after_every_event, reached_fit, reached_beside, from_there_on, read_at_the_deciding_event}
+use Rattle.std.specs.Prelude.{Ok}
+use Rattle.dock.specs.Answers.{done_with}
 
 -- ---- the words that a waveform gives are accepted as its events
 
-heard_accepted : (ws : List ℕ) (es : List Event) → map unpacked ws ≡ map Accepted es → accepted true (map word ws) ≡ map event es
+heard_accepted : (ws : List ℕ) (es : List Event) → map unpacked ws ≡ map Ok es → accepted true (map word ws) ≡ map event es
 unfolding accepted takes
 heard_accepted [] [] p = refl
 heard_accepted [] (e ∷ es) p = absurd (omega (arith, ap length p))
 heard_accepted (w ∷ ws) [] p = absurd (omega (arith, ap length p))
 heard_accepted (w ∷ ws) (e ∷ es) p =
-    let h : unpacked w ≡ Accepted e = cc in
-    let t : map unpacked ws ≡ map Accepted es = cc in
+    let h : unpacked w ≡ Ok e = cc in
+    let t : map unpacked ws ≡ map Ok es = cc in
     rw h (ap (λ hs. event e ∷ hs) (heard_accepted ws es t))
 
 -- The controller after calls, and then after the samples of a waveform.
@@ -76,7 +76,7 @@ unfolding acts_after
 on_the_wires cs es ss b w =
     let s : (machine_after (accepted false cs)).started ≡ true = sym (ap (λ (m : Machine). m.started) (after_every_event cs).machine) ∙ b in
     let h : accepted true (map word (words_of fresh_wire ss)) ≡ map event es =
-    heard_accepted (words_of fresh_wire ss) es (words_unpack fresh_wire ss ∙ ap (map Accepted) (heard_as_spelled es ss w).events) in
+    heard_accepted (words_of fresh_wire ss) es (words_unpack fresh_wire ss ∙ ap (map Ok) (heard_as_spelled es ss w).events) in
     from_there_on cs (map word (words_of fresh_wire ss)) ∙ rw (s, h)
 
 -- ---- a whole write
@@ -148,7 +148,7 @@ pub record WholeRead (cs : List Call) (r : ℕ) (ack : Bool) (ss : List ℕ) : T
   pub words : words_of fresh_wire ss ≡ map word_of (a_read (line_of cs).straps r) ++ (word_of (Take ack) ∷ [])
   pub answer :
       (step_of (after_calls fresh_controller (cs ++ map word (map word_of (a_read (line_of cs).straps r)))) (word_of (Take ack))).answer
-      ≡ Done (Driven (reading (before cs) r)) (outputs (before cs))
+      ≡ done_with (Driven (reading (before cs) r)) (outputs (before cs))
   pub machine : after_wave cs ss ≡ before cs
 
 -- A line with no transfer open.
@@ -192,10 +192,10 @@ module _ (cs : List Call) (r : ℕ) (ack : Bool) (o : (line_of cs).since ≡ [])
       ∙ leaves (map event (a_read (line_of cs).straps r ++ (Take ack ∷ []))) (read_leaves (line_of cs).kind (line_of cs).named (line_of cs).straps r ack (before cs))
 
   -- After the waveform up to the own read byte, the TAKE's word is answered by what happened so far.
-  answered : (before cs).started ≡ true → map unpacked (map word_of (a_read (line_of cs).straps r)) ≡ map Accepted (a_read (line_of cs).straps r)
-      → unpacked (word_of (Take ack)) ≡ Accepted (Take ack)
+  answered : (before cs).started ≡ true → map unpacked (map word_of (a_read (line_of cs).straps r)) ≡ map Ok (a_read (line_of cs).straps r)
+      → unpacked (word_of (Take ack)) ≡ Ok (Take ack)
       → (step_of (after_calls fresh_controller (cs ++ map word (map word_of (a_read (line_of cs).straps r)))) (word_of (Take ack))).answer
-      ≡ Done (Driven (reading (before cs) r)) (outputs (before cs))
+      ≡ done_with (Driven (reading (before cs) r)) (outputs (before cs))
   unfolding takes
   answered b u t =
       let ds = map word (map word_of (a_read (line_of cs).straps r)) in
@@ -212,10 +212,10 @@ pub whole_read_on_the_wires :
     → Wave false true (a_read (line_of cs).straps r ++ (Take ack ∷ [])) ss → WholeRead cs r ack ss
 whole_read_on_the_wires cs r ack ss b o w =
     let heard = heard_as_spelled (a_read (line_of cs).straps r ++ (Take ack ∷ [])) ss w in
-    let u : map unpacked (map word_of (a_read (line_of cs).straps r ++ (Take ack ∷ []))) ≡ map Accepted (a_read (line_of cs).straps r ++ (Take ack ∷ [])) =
-    ap (map unpacked) (sym heard.words) ∙ words_unpack fresh_wire ss ∙ ap (map Accepted) heard.events in
-    let five : map unpacked (map word_of (a_read (line_of cs).straps r)) ≡ map Accepted (a_read (line_of cs).straps r) = ap (take 5) u in
-    let last : unpacked (word_of (Take ack)) ≡ Accepted (Take ack) = cc in
+    let u : map unpacked (map word_of (a_read (line_of cs).straps r ++ (Take ack ∷ []))) ≡ map Ok (a_read (line_of cs).straps r ++ (Take ack ∷ [])) =
+    ap (map unpacked) (sym heard.words) ∙ words_unpack fresh_wire ss ∙ ap (map Ok) heard.events in
+    let five : map unpacked (map word_of (a_read (line_of cs).straps r)) ≡ map Ok (a_read (line_of cs).straps r) = ap (take 5) u in
+    let last : unpacked (word_of (Take ack)) ≡ Ok (Take ack) = cc in
     record {
       words = heard.words;
       answer = answered cs r ack o b five last;

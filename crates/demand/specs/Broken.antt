@@ -2,7 +2,6 @@
 -- it decided no write: before its first data byte, and any read.
 use Rattle.dock.specs.Run.{Call, word, naming as names}
 use Rattle.kind.specs.declared.Kind.TheVariants.{First, Second}
-use Rattle.event.specs.declared.Unpacked.TheVariants.{Accepted, StrayBit as NoEvent}
 use Rattle.event.specs.declared.Event.TheVariants.{Start, Stop, Byte, Take, Pins, Tick, Reset, Timeout}
 use Rattle.std.specs.Prelude.{ℕ, Bool, cond, false, true, List, [], ◌++◌, ◌∷◌, ◌≡◌}
 use Rattle.machine.specs.declared.Act.{Act}
@@ -10,10 +9,11 @@ use Rattle.demand.specs.Bus.{Bus, START}
 use Rattle.event.specs.declared.Event.{Event}
 use Rattle.demand.specs.Acts.{Happening, Is, event, name}
 use Rattle.kind.specs.declared.Kind.{Kind}
-use Rattle.event.specs.declared.Unpacked.{Unpacked}
 use Rattle.demand.specs.Described.{completes, decides, is_going_on}
 use Rattle.event.specs.Words.{unpacked}
 use Rattle.machine.specs.declared.Act.TheVariants as act
+use Rattle.std.specs.Prelude.{Result, Ok, Err}
+use Rattle.event.specs.declared.NoEvent.{NoEvent}
 
 -- What a bus event decides is no write.
 abbrev pub no_write : List Act → Bool
@@ -66,9 +66,9 @@ struck (event e ∷ hs) = cond (on_the_bus e) (struck hs) (event e ∷ struck hs
 struck (name k ∷ hs) = name k ∷ struck hs
 
 -- The same of calls.
-abbrev pub word_on_the_bus : Unpacked → Bool
-word_on_the_bus NoEvent = false
-word_on_the_bus (Accepted e) = on_the_bus e
+abbrev pub word_on_the_bus : Result Event NoEvent → Bool
+word_on_the_bus (Err why) = false
+word_on_the_bus (Ok e) = on_the_bus e
 
 unfoldable pub strike : List Call → List Call
 strike [] = []

@@ -1,6 +1,6 @@
 -- Demand 3 on a chassis (document 02, request 9): so many fresh controllers on one bus, a plain machine beside each, which knows no bytes and does the
 -- acts of the calls that reach its own controller; and the chassis's answer, made of what the plain machines answer.
-use Rattle.std.specs.Prelude.{ℕ, zero, suc, cond, false, List, [], ◌∷◌, ◌++◌, replicate}
+use Rattle.std.specs.Prelude.{ℕ, zero, suc, cond, false, List, [], ◌∷◌, ◌++◌, replicate, Ok}
 use Rattle.event.specs.declared.Event.{Event}
 use Rattle.bus.specs.declared.Reply.{Reply}
 use Rattle.bus.specs.declared.Reply.TheVariants.{Nothing}
@@ -12,7 +12,6 @@ use Rattle.dock.specs.Run.{Call}
 use Rattle.dock.specs.declared.Controller.{Controller}
 use Rattle.chassis.specs.Chassis.{goes_to, unanswered, heard, four}
 use Rattle.chassis.specs.Run.{ChassisCall, word, after_calls, own_calls}
-use Rattle.chassis.specs.declared.Answer.TheVariants.{Done}
 use Rattle.chassis.specs.declared.Told.{Told}
 use Rattle.demand.specs.Words.{accepted}
 use Rattle.demand.specs.Acts.{Happening}
@@ -51,6 +50,6 @@ each (suc k) place f = f place ∷ each k (suc place) f
 unfoldable pub plain_told : ℕ → List ChassisCall → Event → ℕ → ℕ → Told
 plain_told k calls e n w =
     record {
-      answer = Done (heard (unanswered e) (each k 0 (plain_reply k calls e n w)));
+      answer = Ok (heard (unanswered e) (each k 0 (plain_reply k calls e n w)));
       outputs = four (each k 0 (λ i. outputs (plain_at k (calls ++ (word n w ∷ [])) i)));
     }

@@ -2,19 +2,15 @@
 use Rattle.dock.specs.Step.{takes}
 use Rattle.event.specs.declared.Event.TheVariants.{Start, Stop, Byte, Take, Pins, Tick, Reset, Timeout}
 use Rattle.machine.specs.declared.Act.TheVariants as act
-use Rattle.event.specs.declared.Unpacked.TheVariants.{StrayBit as NoEvent, Accepted}
-use Rattle.dock.specs.declared.Answer.TheVariants.{Done, StrayBit, NotStarted}
 use Rattle.std.specs.Prelude.{ℕ, List, [], ◌++◌, ◌∷◌, cond, false}
 use Rattle.bus.specs.declared.Reply.TheVariants.{Ack, Driven, NoAck, NotDriven, Nothing}
 use Rattle.machine.specs.declared.Act.{Act}
-use Rattle.dock.specs.declared.Answer.{Answer}
 use Rattle.demand.specs.Bus.{BYTE, TAKE}
 use Rattle.dock.specs.Run.{Call}
 use Rattle.event.specs.declared.Event.{Event}
 use Rattle.demand.specs.Acts.{Happening, acts_of, event, line_after, silent, with_event, Line}
 use Rattle.machine.specs.declared.Machine.{Machine}
 use Rattle.bus.specs.declared.Reply.{Reply}
-use Rattle.event.specs.declared.Unpacked.{Unpacked}
 use Rattle.demand.specs.Words.{accepted}
 use Rattle.machine.specs.Acts.{does, does_all}
 use Rattle.machine.specs.Record.{fresh_machine}
@@ -22,6 +18,10 @@ use Rattle.demand.specs.Described.{is_going_on}
 use Rattle.machine.specs.Outputs.{outputs}
 use Rattle.machine.specs.InForce.{reading}
 use Rattle.event.specs.Words.{unpacked}
+use Rattle.std.specs.Prelude.{Result, Ok, Err}
+use Rattle.event.specs.declared.NoEvent.{NoEvent}
+use Rattle.dock.specs.Answers.{Answer, done_with}
+use Rattle.dock.specs.declared.Refusal.TheVariants.{NotStarted, StrayBit}
 
 -- The machine after events, from a fresh one: it has done each whole command at once at its deciding event.
 unfoldable pub machine_after : List Happening → Machine
@@ -65,11 +65,11 @@ reply_to past e = reply_by (line_after silent past) (read_by past) e
 
 -- The whole answer to a word that comes after accepted events: a word that is refused with 2 has the machine's outputs.
 abbrev pub to_event : List Happening → Event → Answer
-to_event past e = Done (reply_to past e) (outputs (machine_after (past ++ (event e ∷ []))))
+to_event past e = done_with (reply_to past e) (outputs (machine_after (past ++ (event e ∷ []))))
 
-abbrev pub to_word : List Happening → Unpacked → Answer
-to_word past NoEvent = StrayBit (outputs (machine_after past))
-to_word past (Accepted e) = cond (takes (machine_after past).started e) (to_event past e) NotStarted
+abbrev pub to_word : List Happening → Result Event NoEvent → Answer
+to_word past (Err why) = Err (StrayBit (outputs (machine_after past)))
+to_word past (Ok e) = cond (takes (machine_after past).started e) (to_event past e) (Err NotStarted)
 
 -- The answer to a word that comes after calls, from a fresh controller.
 unfoldable pub plain_answer : List Call → ℕ → Answer

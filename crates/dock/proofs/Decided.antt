@@ -25,13 +25,13 @@ use Rattle.dock.specs.declared.Controller.{Controller}
 use Rattle.dock.specs.declared.Turn.{Turn}
 use Rattle.dock.proofs.Laws.{pins_passed_over, tick_passed_over}
 use Rattle.machine.specs.declared.Act.{Act}
-use Rattle.dock.specs.declared.Deed.TheVariants.{Does, NoDeed}
 use Rattle.kind.specs.declared.Kind.TheVariants.{First, Second}
 use Rattle.kind.specs.declared.Kind.{Kind}
 use Rattle.machine.specs.declared.Machine.{Machine}
 use lib.Dec.{eqb}
 use Rattle.bay.proofs.Taut.{pick}
 use Rattle.machine.specs.declared.Act.TheVariants as act
+use Rattle.std.specs.Prelude.{Some, None}
 
 -- ---- what writes
 
@@ -145,7 +145,7 @@ no_other_event_moves s Start i h = refl
 no_other_event_moves s Stop i h = stops (known_to s.machine.kind s.progress) h
   where
     stops :
-        (p : Progress) → at_stop (moves_bay s.machine i) false p ≡ false → (bay_at (done (at_stop Does NoDeed p) s.machine) i).state ≡ (bay_at s.machine i).state
+        (p : Progress) → at_stop (moves_bay s.machine i) false p ≡ false → (bay_at (done (at_stop Some None p) s.machine) i).state ≡ (bay_at s.machine i).state
     stops Idle k = refl
     stops Opened k = refl
     stops Addressed k = refl

@@ -3,11 +3,7 @@
 use Prim.Native.Nat.{ℕ}
 use mathlib.Core.List.{List, [], ◌∷◌}
 use Rattle.event.specs.Words.{unpacked}
-use Rattle.event.specs.declared.Unpacked.{Unpacked}
-use Rattle.event.specs.declared.Unpacked.TheVariants.{Accepted, StrayBit}
 use Rattle.kind.specs.Kind.{numbered}
-use Rattle.kind.specs.declared.Numbered.{Numbered}
-use Rattle.kind.specs.declared.Numbered.TheVariants.{Names, Neither}
 use Rattle.bay.proofs.Taut.{pick}
 use Rattle.machine.specs.Record.{fits}
 use Rattle.machine.specs.Acts.{does}
@@ -19,25 +15,28 @@ use Rattle.dock.specs.Step.{takes, step_fit, step_of}
 use Rattle.dock.specs.Name.{name_fit, name_of}
 use Rattle.dock.specs.Run.{Call, word, naming, after_call, after_calls}
 use Rattle.dock.specs.declared.Controller.{Controller}
-use Rattle.dock.specs.declared.Deed.{Deed}
-use Rattle.dock.specs.declared.Deed.TheVariants.{NoDeed, Does}
 use Rattle.dock.specs.declared.Renamed.{Renamed}
 use Rattle.dock.specs.declared.Stepped.{Stepped}
+use Rattle.std.specs.Prelude.{Result, Ok, Err, None, Option, Some}
+use Rattle.event.specs.declared.Event.{Event}
+use Rattle.event.specs.declared.NoEvent.{NoEvent}
+use Rattle.kind.specs.declared.Kind.{Kind}
+use Rattle.kind.specs.declared.UnknownKind.{UnknownKind}
 
 module _ (P : Machine → Type 0) (kept : (a : Act) (m : Machine) → P m → P (does a m)) where
-  deed_keeps : (d : Deed) (m : Machine) → P m → P (done d m)
-  deed_keeps NoDeed m h = h
-  deed_keeps (Does a) m h = kept a m h
+  deed_keeps : (d : Option Act) (m : Machine) → P m → P (done d m)
+  deed_keeps None m h = h
+  deed_keeps (Some a) m h = kept a m h
 
-  word_keeps : (s : Controller) (u : Unpacked) → P s.machine → P (step_fit s u).controller.machine
+  word_keeps : (s : Controller) (u : Result Event NoEvent) → P s.machine → P (step_fit s u).controller.machine
   unfolding next
-  word_keeps s StrayBit h = h
-  word_keeps s (Accepted e) h =
+  word_keeps s (Err why) h = h
+  word_keeps s (Ok e) h =
       pick (λ (x : Stepped). P x.controller.machine) (takes s.machine.started e) (λ t. deed_keeps (turn_of s e).deed s.machine h) (λ t. h)
 
-  number_keeps : (s : Controller) (n : Numbered) → P s.machine → P (name_fit s n).controller.machine
-  number_keeps s (Names k) h = kept (Name k) s.machine h
-  number_keeps s Neither h = h
+  number_keeps : (s : Controller) (n : Result Kind UnknownKind) → P s.machine → P (name_fit s n).controller.machine
+  number_keeps s (Ok k) h = kept (Name k) s.machine h
+  number_keeps s (Err why) h = h
 
   every_step : (s : Controller) (w : ℕ) → P s.machine → P (step_of s w).controller.machine
   unfolding step_of

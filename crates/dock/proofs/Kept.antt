@@ -7,12 +7,10 @@ use mathlib.Core.List.{List, [], ◌∷◌}
 use Rattle.event.specs.Words.{unpacked, straps_of}
 use Rattle.event.specs.declared.Event.{Event}
 use Rattle.event.specs.declared.Event.TheVariants.{Start, Stop, Byte, Take, Pins, Tick, Reset, Timeout}
-use Rattle.event.specs.declared.Unpacked.{Unpacked}
-use Rattle.event.specs.declared.Unpacked.TheVariants.{Accepted, StrayBit as NoEvent}
 use Rattle.event.proofs.Straps.{accepted_straps}
 use Rattle.bits.specs.Straps.{MOST_STRAPS}
 use Rattle.bay.proofs.Taut.{pick}
-use Rattle.bus.specs.Progress.{heard, known_to, started}
+use Rattle.bus.specs.Progress.{heard, known_to}
 use Rattle.bus.specs.declared.Progress.{Progress}
 use Rattle.bus.specs.declared.Progress.TheVariants.{Idle, Opened, Addressed, Register, Data, Again, Reading, Sending, Writing}
 use Rattle.bus.specs.declared.Heard.{Heard}
@@ -27,24 +25,25 @@ use Rattle.dock.specs.Events.{stop_deed, byte_heard, byte_at, turn_of, done, nex
 use Rattle.dock.specs.Step.{takes, step_fit, step_of}
 use Rattle.dock.specs.Run.{after, Reached, Call, after_call, after_calls, word, naming}
 use Rattle.dock.specs.declared.Controller.{Controller}
-use Rattle.dock.specs.declared.Deed.{Deed}
-use Rattle.dock.specs.declared.Deed.TheVariants.{NoDeed, Does}
 use Rattle.dock.specs.declared.Stepped.{Stepped}
 use Rattle.dock.specs.declared.Turn.{Turn}
 use Rattle.kind.specs.Kind.{numbered}
-use Rattle.kind.specs.declared.Numbered.TheVariants.{Names, Neither}
-use Rattle.kind.specs.declared.Numbered.{Numbered}
 use Rattle.dock.specs.declared.Renamed.{Renamed}
 use Rattle.dock.specs.Name.{name_fit, name_of}
 use Rattle.machine.specs.InForce.{reading}
+use Rattle.std.specs.Prelude.{Result, Ok, Err, None, Option, Some}
+use Rattle.event.specs.declared.NoEvent.{NoEvent}
+use Rattle.machine.specs.declared.Act.{Act}
+use Rattle.kind.specs.declared.Kind.{Kind}
+use Rattle.kind.specs.declared.UnknownKind.{UnknownKind}
 
 -- ---- what an event has the machine do is a proper act, if anything
 
-ProperDeed : Deed → Type 0
-ProperDeed NoDeed = Unit {0}
-ProperDeed (Does a) = Proper a
+ProperDeed : Option Act → Type 0
+ProperDeed None = Unit {0}
+ProperDeed (Some a) = Proper a
 
-stop_proper : (p : Progress) → ProperDeed (at_stop Does NoDeed p)
+stop_proper : (p : Progress) → ProperDeed (at_stop Some None p)
 unfolding ProperDeed Proper
 stop_proper Idle = tt
 stop_proper Opened = tt
@@ -89,10 +88,10 @@ deed_proper s Timeout l = tt
 -- ---- a kept property
 
 module _ (P : Machine → Type 0) (kept : Kept P) where
-  done_keeps : (d : Deed) → ProperDeed d → (m : Machine) → fits m ≡ true → m.started ≡ true → P m → P (done d m)
+  done_keeps : (d : Option Act) → ProperDeed d → (m : Machine) → fits m ≡ true → m.started ≡ true → P m → P (done d m)
   unfolding ProperDeed
-  done_keeps NoDeed l m f t h = h
-  done_keeps (Does a) l m f t h = act_keeps P kept a l m f t h
+  done_keeps None l m f t h = h
+  done_keeps (Some a) l m f t h = act_keeps P kept a l m f t h
 
   -- Before the first RESET only a RESET acts, and nothing need hold.
   first_keeps : (s : Controller) (e : Event) → fits s.machine ≡ true → takes false e ≡ true → straps_of e ≤ MOST_STRAPS → P (next s e).machine
@@ -117,9 +116,9 @@ module _ (P : Machine → Type 0) (kept : Kept P) where
       go true t k = done_keeps (turn_of s e).deed (deed_proper s e l) s.machine f t (h t)
       go false t k = first_keeps s e f k l
 
-  word_keeps : (s : Controller) (u : Unpacked) → fits s.machine ≡ true → ((e : Event) → u ≡ Accepted e → straps_of e ≤ MOST_STRAPS) → P s.machine → P (step_fit s u).controller.machine
-  word_keeps s NoEvent f l h = h
-  word_keeps s (Accepted e) f l h =
+  word_keeps : (s : Controller) (u : Result Event NoEvent) → fits s.machine ≡ true → ((e : Event) → u ≡ Ok e → straps_of e ≤ MOST_STRAPS) → P s.machine → P (step_fit s u).controller.machine
+  word_keeps s (Err why) f l h = h
+  word_keeps s (Ok e) f l h =
       pick (λ (x : Stepped). P x.controller.machine) (takes s.machine.started e) (λ k. event_keeps s e f (l e refl) k (λ t. h)) (λ k. h)
 
   pub step_keeps : (s : Controller) (w : ℕ) → P s.machine → P (step_of s w).controller.machine
@@ -140,9 +139,9 @@ module _ (P : Machine → Type 0) (kept : Kept P) where
       Q : Renamed → Type 0
       Q r = P r.controller.machine
 
-      by_number : (k : Numbered) → Q (name_fit s k)
-      by_number (Names k) = kept.by_name k s.machine h
-      by_number Neither = h
+      by_number : (k : Result Kind UnknownKind) → Q (name_fit s k)
+      by_number (Ok k) = kept.by_name k s.machine h
+      by_number (Err why) = h
 
   call_keeps : (s : Controller) (c : Call) → P s.machine → P (after_call s c).machine
   call_keeps s (word w) h = step_keeps s w h

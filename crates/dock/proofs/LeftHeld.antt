@@ -5,12 +5,9 @@ use mathlib.Core.Bool.{Bool, true, false, cond, true≢false}
 use Rattle.kind.specs.Kind.{numbered}
 use Rattle.kind.specs.declared.Kind.{Kind}
 use Rattle.kind.specs.declared.Kind.TheVariants.{First, Second}
-use Rattle.kind.specs.declared.Numbered.{Numbered}
-use Rattle.kind.specs.declared.Numbered.TheVariants.{Names, Neither}
 use Rattle.event.specs.Words.{unpacked}
 use Rattle.event.specs.declared.Event.{Event}
 use Rattle.event.specs.declared.Event.TheVariants as event
-use Rattle.event.specs.declared.Unpacked.TheVariants.{Accepted}
 use Rattle.bus.specs.Progress.{known_to, started_known, started, heard_known, heard, holding, next_register, own_read_byte, own_write_byte, held_known, held_by}
 use Rattle.bus.specs.declared.Progress.{Progress}
 use Rattle.bus.specs.declared.Progress.TheVariants.{Idle, Opened, Addressed, Register, Data, Again, Reading, Writing, Sending}
@@ -28,21 +25,22 @@ use Rattle.dock.specs.Step.{takes, step_of}
 use Rattle.dock.specs.Name.{name_fit, name_of}
 use Rattle.dock.specs.Held.{as_held, held_fit, told_held}
 use Rattle.dock.specs.declared.Controller.{Controller}
-use Rattle.dock.specs.declared.HeldByte.{HeldByte}
-use Rattle.dock.specs.declared.HeldByte.TheVariants.{Byte, Nothing}
 use Rattle.dock.specs.declared.Stepped.{Stepped}
 use Rattle.dock.proofs.Kept.{name_keeps}
 use Rattle.dock.proofs.Laws.{step_fit_lem}
 use Rattle.dock.proofs.OpenRead.{told_fit, not_started}
+use Rattle.std.specs.Prelude.{Ok, None, Option, Result, Some, Err}
+use Rattle.dock.specs.declared.Refusal.{Refusal}
+use Rattle.kind.specs.declared.UnknownKind.{UnknownKind}
 
 -- What is told after a word of this event.
-abbrev pub Leaves : Controller → Event → HeldByte → Type 0
-Leaves s e h = (w : ℕ) → unpacked w ≡ Accepted e → told_held (step_of s w).controller ≡ h
+abbrev pub Leaves : Controller → Event → Result (Option ℕ) Refusal → Type 0
+Leaves s e h = (w : ℕ) → unpacked w ≡ Ok e → told_held (step_of s w).controller ≡ h
 
-module _ (s : Controller) (e : Event) (h : HeldByte) (f : fits s.machine ≡ true) where
+module _ (s : Controller) (e : Event) (h : Result (Option ℕ) Refusal) (f : fits s.machine ≡ true) where
   stepped :
       (takes s.machine.started e ≡ true → held_fit (next s e) ≡ h) → (takes s.machine.started e ≡ false → held_fit s ≡ h)
-      → (w : ℕ) → unpacked w ≡ Accepted e → held_fit (step_of s w).controller ≡ h
+      → (w : ℕ) → unpacked w ≡ Ok e → held_fit (step_of s w).controller ≡ h
   unfolding step_of
   stepped t r w u = rw (f, u) (pick (λ (x : Stepped). held_fit x.controller ≡ h) (takes s.machine.started e) t r)
 
@@ -50,7 +48,7 @@ module _ (s : Controller) (e : Event) (h : HeldByte) (f : fits s.machine ≡ tru
   leaves t r w u = told_fit (step_of s w).controller (step_fit_lem s w f) ∙ stepped t r w u
 
 -- One that is not taken was given to a state that isn't started.
-untaken : (s : Controller) (e : Event) → takes s.machine.started e ≡ false → held_fit s ≡ Nothing
+untaken : (s : Controller) (e : Event) → takes s.machine.started e ≡ false → held_fit s ≡ Ok None
 unfolding takes
 untaken s e r = not_started s (neither _ _ r).0
 
@@ -58,15 +56,15 @@ untaken s e r = not_started s (neither _ _ r).0
 abbrev at : Machine → Progress → Controller
 at m p = record { machine = m; progress = p }
 
-quiet : (m : Machine) (p : Progress) → ((k : Kind) → as_held (held_by k p) ≡ Nothing) → held_fit (at m p) ≡ Nothing
+quiet : (m : Machine) (p : Progress) → ((k : Kind) → as_held (held_by k p) ≡ Ok None) → held_fit (at m p) ≡ Ok None
 unfolding held_fit
-quiet m p n = rw (n m.kind) (either_way Nothing m.started)
+quiet m p n = rw (n m.kind) (either_way (Ok None) m.started)
 
-idle : (m : Machine) → held_fit (at m Idle) ≡ Nothing
+idle : (m : Machine) → held_fit (at m Idle) ≡ Ok None
 unfolding held_by held_known known_to
 idle m = quiet m Idle (λ k. refl)
 
-after_start : (m : Machine) (p : Progress) → held_fit (at m (started_known p)) ≡ Nothing
+after_start : (m : Machine) (p : Progress) → held_fit (at m (started_known p)) ≡ Ok None
 unfolding held_by held_known known_to started_known
 after_start m Idle = quiet m Opened (λ k. refl)
 after_start m Opened = idle m
@@ -79,30 +77,30 @@ after_start m (Writing n) = idle m
 after_start m (Sending n v) = idle m
 
 -- A BYTE leaves what the register reads then where it decides a read, and else nothing.
-abbrev pub left_by_byte : (ℕ → ℕ) → Heard → HeldByte
-left_by_byte reads (On p) = Nothing
-left_by_byte reads (Write r v) = Nothing
-left_by_byte reads (Read r) = Byte (reads r)
-left_by_byte reads End = Nothing
+abbrev pub left_by_byte : (ℕ → ℕ) → Heard → Result (Option ℕ) Refusal
+left_by_byte reads (On p) = Ok None
+left_by_byte reads (Write r v) = Ok None
+left_by_byte reads (Read r) = Ok (Some (reads r))
+left_by_byte reads End = Ok None
 
 -- A TAKE that the host ACKs leaves in the second kind what the next register reads then, where a byte was held; any other nothing.
-abbrev pub left_by_take : (ℕ → ℕ) → Bool → Progress → HeldByte
-left_by_take reads ack Idle = Nothing
-left_by_take reads ack Opened = Nothing
-left_by_take reads ack Addressed = Nothing
-left_by_take reads ack (Register r) = Nothing
-left_by_take reads ack (Data r v) = Nothing
-left_by_take reads ack (Again r) = Nothing
-left_by_take reads ack (Reading v) = Nothing
-left_by_take reads ack (Writing n) = Nothing
-left_by_take reads ack (Sending n v) = cond ack (Byte (reads (next_register n))) Nothing
+abbrev pub left_by_take : (ℕ → ℕ) → Bool → Progress → Result (Option ℕ) Refusal
+left_by_take reads ack Idle = Ok None
+left_by_take reads ack Opened = Ok None
+left_by_take reads ack Addressed = Ok None
+left_by_take reads ack (Register r) = Ok None
+left_by_take reads ack (Data r v) = Ok None
+left_by_take reads ack (Again r) = Ok None
+left_by_take reads ack (Reading v) = Ok None
+left_by_take reads ack (Writing n) = Ok None
+left_by_take reads ack (Sending n v) = cond ack (Ok (Some (reads (next_register n)))) (Ok None)
 
 module _ (m : Machine) (t : m.started ≡ true) where
-  after_read : (r v : ℕ) → held_fit (at m (holding m.kind r v)) ≡ Byte v
+  after_read : (r v : ℕ) → held_fit (at m (holding m.kind r v)) ≡ Ok (Some v)
   unfolding held_fit held_by held_known known_to holding
   after_read r v = rw t (go m.kind)
     where
-      go : (k : Kind) → as_held (held_by k (holding k r v)) ≡ Byte v
+      go : (k : Kind) → as_held (held_by k (holding k r v)) ≡ Ok (Some v)
       go First = refl
       go Second = refl
 
@@ -153,8 +151,8 @@ module _ (m : Machine) (t : m.started ≡ true) where
 
 -- What each event leaves of the byte, and a name: START, STOP, TIMEOUT and RESET leave none, PINS, TICK and a name leave it as it is.
 pub record LeftHeld (s : Controller) : Type 0 where
-  pub start : Leaves s event.Start Nothing
-  pub stop : Leaves s event.Stop Nothing
+  pub start : Leaves s event.Start (Ok None)
+  pub stop : Leaves s event.Stop (Ok None)
   pub byte :
       (b : ℕ) → s.machine.started ≡ true
       → Leaves s (event.Byte b) (left_by_byte (reading s.machine) (heard s.machine.kind s.machine.straps b s.progress))
@@ -163,19 +161,19 @@ pub record LeftHeld (s : Controller) : Type 0 where
       → Leaves s (event.Take ack) (left_by_take (reading s.machine) ack (known_to s.machine.kind s.progress))
   pub pins : (levels : ℕ) → Leaves s (event.Pins levels) (told_held s)
   pub tick : Leaves s event.Tick (told_held s)
-  pub reset : (straps levels : ℕ) (short : Bool) → Leaves s (event.Reset straps levels short) Nothing
-  pub timeout : Leaves s event.Timeout Nothing
+  pub reset : (straps levels : ℕ) (short : Bool) → Leaves s (event.Reset straps levels short) (Ok None)
+  pub timeout : Leaves s event.Timeout (Ok None)
   pub name : (n : ℕ) → told_held (name_of s n).controller ≡ told_held s
 
 module _ (s : Controller) (f : fits s.machine ≡ true) where
   -- An event that ends in none is none, taken or not.
-  none_left : (e : Event) → held_fit (next s e) ≡ Nothing → Leaves s e Nothing
-  none_left e n = leaves s e Nothing f (λ t. n) (untaken s e)
+  none_left : (e : Event) → held_fit (next s e) ≡ Ok None → Leaves s e (Ok None)
+  none_left e n = leaves s e (Ok None) f (λ t. n) (untaken s e)
 
   passed_over : (e : Event) → held_fit (next s e) ≡ held_fit s → Leaves s e (told_held s)
   passed_over e n = leaves s e (told_held s) f (λ t. n ∙ sym (told_fit s f)) (λ r. sym (told_fit s f))
 
-  if_started : (e : Event) (h : HeldByte) → s.machine.started ≡ true → held_fit (next s e) ≡ h → Leaves s e h
+  if_started : (e : Event) (h : Result (Option ℕ) Refusal) → s.machine.started ≡ true → held_fit (next s e) ≡ h → Leaves s e h
   unfolding takes
   if_started e h t n = leaves s e h f (λ _. n) (λ r. absurd (true≢false (sym t ∙ (neither _ _ r).0)))
 
@@ -183,9 +181,9 @@ module _ (s : Controller) (f : fits s.machine ≡ true) where
   unfolding name_of held_fit does name_to
   renamed_fit n = rw f (by_number (numbered n))
     where
-      by_number : (k : Numbered) → held_fit (name_fit s k).controller ≡ held_fit s
-      by_number (Names k) = refl
-      by_number Neither = refl
+      by_number : (k : Result Kind UnknownKind) → held_fit (name_fit s k).controller ≡ held_fit s
+      by_number (Ok k) = refl
+      by_number (Err why) = refl
 
   pub left_held : LeftHeld s
   unfolding next turn_of started byte_at heard held_fit does pins_to tick_to Left

@@ -5,7 +5,6 @@ use mathlib.Core.Bool.{Bool, true, false, cond}
 use Rattle.event.specs.Words.{unpacked}
 use Rattle.event.specs.declared.Event.{Event}
 use Rattle.event.specs.declared.Event.TheVariants.{Reset}
-use Rattle.event.specs.declared.Unpacked.TheVariants.{Accepted}
 use Rattle.event.proofs.Theorems.{by_kind}
 use Rattle.machine.specs.Record.{fits}
 use Rattle.machine.specs.InForce.{reading, written}
@@ -17,11 +16,12 @@ use Rattle.dock.specs.Events.{turn_of, next}
 use Rattle.dock.specs.Step.{refused, done_step, step_fit, step_of, after_word}
 use Rattle.dock.specs.Letr.{letr_next}
 use Rattle.dock.specs.declared.Controller.{Controller}
-use Rattle.dock.specs.declared.Answer.TheVariants.{Unfit}
 use Rattle.dock.specs.declared.Stepped.{Stepped}
 use Rattle.dock.proofs.Parts.{part_next_lem}
 use Rattle.dock.proofs.Refusals.{reset_taken}
 use Rattle.kind.specs.declared.Kind.TheVariants.{First}
+use Rattle.std.specs.Prelude.{Ok, Err}
+use Rattle.dock.specs.declared.Refusal.TheVariants.{Unfit}
 
 pub letr_next_lem : (s : Controller) (e : Event) → letr (next s e).machine ≡ letr_next s e
 unfolding letr_next
@@ -29,12 +29,12 @@ letr_next_lem = part_next_lem letr letr_after letr_after_lem
 
 -- The word of a RESET makes a machine anew, whatever was before but for what the second kind keeps.
 reset_step :
-    (s : Controller) (w straps levels : ℕ) (short : Bool) → fits s.machine ≡ true → unpacked w ≡ Accepted (Reset straps levels short)
+    (s : Controller) (w straps levels : ℕ) (short : Bool) → fits s.machine ≡ true → unpacked w ≡ Ok (Reset straps levels short)
     → after_word s w ≡ reset_to straps levels short s.machine
 unfolding step_of next turn_of does
 reset_step s w straps levels short f u = ap (λ (x : Stepped). x.controller.machine) taken
   where
-    taken : cond (fits s.machine) (step_fit s (unpacked w)) (refused s Unfit) ≡ done_step s (Reset straps levels short)
+    taken : cond (fits s.machine) (step_fit s (unpacked w)) (refused s (Err Unfit)) ≡ done_step s (Reset straps levels short)
     taken = rw (f, u, reset_taken s.machine.started straps levels short)
 
 -- Into the first kind, C000h to CFFFh start LETR at 1 and D000h to DFFFh at 0; between the two the machines differ by a write of 0 to LETR.

@@ -14,11 +14,12 @@ use lib.Dec.{eqb}
 use borrow.Author.Tests.{eqb-false, eqb-true}
 use Rattle.dock.specs.Name.{name_of, naming_refusal, name_fit, named_to, renamed}
 use Rattle.kind.specs.declared.Kind.{Kind}
-use Rattle.dock.specs.declared.Naming.TheVariants.{NoSuchKind, Stored, Unfit}
-use Rattle.kind.specs.declared.Numbered.{Numbered}
 use Rattle.dock.specs.declared.Renamed.{Renamed}
 use Rattle.bay.proofs.Taut.{pick}
 use Rattle.machine.specs.declared.Act.TheVariants as act
+use Rattle.dock.specs.declared.NamingRefusal.TheVariants.{NoSuchKind, Unfit}
+use Rattle.std.specs.Prelude.{Err, Ok, Result}
+use Rattle.kind.specs.declared.UnknownKind.{UnknownKind}
 
 -- The refusal of a number n, of a state that may be named or not. In their order: 1, then 14.
 pub record RefusedBy (n : ℕ) (usable : Bool) (r : ℕ) : Type 0 where
@@ -60,13 +61,13 @@ pub record NamedExactly (s : Controller) (n : ℕ) (r : Renamed) : Type 0 where
   pub unchanged : naming_refusal r.naming ≢ 0 → r.controller ≡ s
 
 module _ (s : Controller) (n : ℕ) where
-  unfit : fits s.machine ≡ false → NamedExactly s n (renamed s Unfit)
+  unfit : fits s.machine ≡ false → NamedExactly s n (renamed s (Err Unfit))
   unfit f = record { refusal = rw f (given_1 n); unchanged = λ z. refl }
 
-  stored : fits s.machine ≡ true → (n ≡ 1) ⊎ (n ≡ 2) → (k : Kind) → NamedExactly s n (renamed (named_to k s) Stored)
+  stored : fits s.machine ≡ true → (n ≡ 1) ⊎ (n ≡ 2) → (k : Kind) → NamedExactly s n (renamed (named_to k s) (Ok tt))
   stored f e k = record { refusal = rw f (given_0 n e); unchanged = λ z. absurd (z refl) }
 
-  neither : fits s.machine ≡ true → n ≢ 1 → n ≢ 2 → NamedExactly s n (renamed s NoSuchKind)
+  neither : fits s.machine ≡ true → n ≢ 1 → n ≢ 2 → NamedExactly s n (renamed s (Err NoSuchKind))
   neither f p q = record { refusal = rw f (given_14 n p q); unchanged = λ z. refl }
 
   pub named_exactly : NamedExactly s n (name_of s n)
@@ -77,7 +78,7 @@ module _ (s : Controller) (n : ℕ) where
       (λ p. pick P (eqb n 2) (λ q. stored f (inr (eqb-true n 2 q)) Second) (λ q. neither f (eqb-false n 1 p) (eqb-false n 2 q))))
       unfit
     where
-      P : Numbered → Type 0
+      P : Result Kind UnknownKind → Type 0
       P u = NamedExactly s n (name_fit s u)
 
 -- 1 names the first kind and 2 the second; the open command goes on.

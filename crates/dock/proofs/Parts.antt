@@ -10,13 +10,13 @@ use Rattle.machine.specs.declared.Act.{Act}
 use Rattle.dock.specs.Events.{at_stop, stop_deed, turn_of, done, next, at_byte, byte_at}
 use Rattle.dock.specs.Parts.{part_next}
 use Rattle.dock.specs.declared.Controller.{Controller}
-use Rattle.dock.specs.declared.Deed.TheVariants.{Does, NoDeed}
 use Rattle.bus.specs.declared.Heard.{Heard}
 use Rattle.bus.specs.declared.Heard.TheVariants.{On, Write, Read, End}
 use Rattle.dock.proofs.Decided.{at_byte_lem, never_writes}
 use Rattle.bus.specs.Progress.{heard, known_to}
 use Prim.Native.Nat.{ℕ}
 use Rattle.machine.specs.declared.Act.TheVariants as act
+use Rattle.std.specs.Prelude.{Some, None}
 
 module _ {A : Type 0} (part : Machine → A) (after : Machine → Act → A) (act-after : (a : Act) (m : Machine) → part (does a m) ≡ after m a) where
   pub part_next_lem : (s : Controller) (e : Event) → part (next s e).machine ≡ part_next part after s e
@@ -24,7 +24,7 @@ module _ {A : Type 0} (part : Machine → A) (after : Machine → Act → A) (ac
   part_next_lem s Start = refl
   part_next_lem s Stop = stops (known_to s.machine.kind s.progress)
     where
-      stops : (p : Progress) → part (done (at_stop Does NoDeed p) s.machine) ≡ at_stop (after s.machine) (part s.machine) p
+      stops : (p : Progress) → part (done (at_stop Some None p) s.machine) ≡ at_stop (after s.machine) (part s.machine) p
       stops Idle = refl
       stops Opened = refl
       stops Addressed = refl

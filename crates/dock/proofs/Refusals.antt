@@ -8,23 +8,22 @@ use mathlib.Core.Bool.{Bool, true, false, cond, true≢false, false≢true}
 use Rattle.event.specs.Words.{unpacked, StrayBitSet}
 use Rattle.event.specs.declared.Event.{Event}
 use Rattle.event.specs.declared.Event.TheVariants.{Start, Stop, Byte, Take, Pins, Tick, Reset, Timeout}
-use Rattle.event.specs.declared.Unpacked.{Unpacked}
-use Rattle.event.specs.declared.Unpacked.TheVariants.{Accepted, StrayBit as NoEvent}
 use Rattle.event.proofs.Theorems.{words_refused}
 use Rattle.event.proofs.RoundTrip.{accepted_is_none}
 use Rattle.bay.proofs.Taut.{pick}
 use Rattle.machine.specs.Record.{fits}
 use Rattle.machine.specs.Outputs.{outputs}
 use Rattle.machine.specs.InForce.{reading}
-use Rattle.dock.specs.Answers.{refusal_of, reply_of, byte_of, outputs_of, told_refusal, told_value}
+use Rattle.dock.specs.Answers.{refusal_of, reply_of, byte_of, outputs_of, told_refusal, told_value, Answer}
 use Rattle.dock.specs.Step.{takes, refused, step_fit, step_of, told_reading, told_outputs}
 use Rattle.dock.specs.Refusals.{IsReset, Exactly}
 use Rattle.dock.specs.declared.Controller.{Controller}
 use Rattle.dock.specs.declared.Stepped.{Stepped}
-use Rattle.dock.specs.declared.Answer.{Answer}
-use Rattle.dock.specs.declared.Answer.TheVariants.{Unfit}
-use Rattle.dock.specs.declared.Told.{Told}
-use Rattle.dock.specs.declared.Told.TheVariants.{Value, Unfit as NotFit}
+use Rattle.std.specs.Prelude.{Result, Ok, Err}
+use Rattle.event.specs.declared.NoEvent.{NoEvent}
+use Rattle.event.specs.Words.{no_event}
+use Rattle.dock.specs.declared.Refusal.TheVariants.{Unfit}
+use Rattle.dock.specs.declared.Refusal.{Refusal}
 
 -- A refused word leaves the state as it came.
 pub refused_unchanged : (s : Controller) (w : ℕ) → refusal_of (step_of s w).answer ≢ 0 → (step_of s w).controller ≡ s
@@ -34,9 +33,9 @@ refused_unchanged s w = pick Unchanged (fits s.machine) (λ f. by_word_lem (unpa
     Unchanged : Stepped → Type 0
     Unchanged x = refusal_of x.answer ≢ 0 → x.controller ≡ s
 
-    by_word_lem : (u : Unpacked) → Unchanged (step_fit s u)
-    by_word_lem NoEvent = λ n. refl
-    by_word_lem (Accepted e) = pick Unchanged (takes s.machine.started e) (λ t n. absurd (n refl)) (λ t n. refl)
+    by_word_lem : (u : Result Event NoEvent) → Unchanged (step_fit s u)
+    by_word_lem (Err why) = λ n. refl
+    by_word_lem (Ok e) = pick Unchanged (takes s.machine.started e) (λ t n. absurd (n refl)) (λ t n. refl)
 
 -- The other three numbers of an answer.
 pub record Numbers (a : Answer) (reply byte out : ℕ) : Type 0 where
@@ -55,7 +54,7 @@ pub comes_back : (s : Controller) (w : ℕ) → ComesBack s (step_of s w)
 unfolding step_of
 comes_back s w = pick (ComesBack s) (fits s.machine) (λ f. by_word_lem (unpacked w)) (λ f. refused_1)
   where
-    refused_1 : ComesBack s (refused s Unfit)
+    refused_1 : ComesBack s (refused s (Err Unfit))
     refused_1 =
         record {
           one = λ n. record { reply_is = refl; byte_is = refl; outputs_are = refl };
@@ -64,15 +63,15 @@ comes_back s w = pick (ComesBack s) (fits s.machine) (λ f. by_word_lem (unpacke
           none = λ n. absurd (omega (arith, n));
         }
 
-    by_word_lem : (u : Unpacked) → ComesBack s (step_fit s u)
-    by_word_lem NoEvent =
+    by_word_lem : (u : Result Event NoEvent) → ComesBack s (step_fit s u)
+    by_word_lem (Err no_event) =
         record {
           one = λ n. absurd (omega (arith, n));
           two = λ n. record { reply_is = refl; byte_is = refl; outputs_are = refl };
           three = λ n. absurd (omega (arith, n));
           none = λ n. absurd (omega (arith, n));
         }
-    by_word_lem (Accepted e) =
+    by_word_lem (Ok e) =
         pick (ComesBack s) (takes s.machine.started e)
         (λ t. record {
           one = λ n. absurd (omega (arith, n));
@@ -152,18 +151,18 @@ module _ (s : Controller) (w : ℕ) where
         none = (λ n. (f, b, t), λ h. refl);
       }
 
-  by_event_lem : fits s.machine ≡ true → (StrayBitSet w → ⊥) → (e : Event) → unpacked w ≡ Accepted e → Exactly s w (refusal_of (step_fit s (Accepted e)).answer)
+  by_event_lem : fits s.machine ≡ true → (StrayBitSet w → ⊥) → (e : Event) → unpacked w ≡ Ok e → Exactly s w (refusal_of (step_fit s (Ok e)).answer)
   unfolding Taken
   by_event_lem f b e p =
       pick (λ (x : Stepped). Exactly s w (refusal_of x.answer)) (takes s.machine.started e) (λ k. accepted f b (reset_word (taken _ e k))) (λ k. refused_early k)
     where
       reset_word : Taken s.machine.started e → (s.machine.started ≡ true) ⊎ IsReset w
       reset_word (inl t) = inl t
-      reset_word (inr r) = inr (r.0, r.1, r.2, p ∙ ap Accepted r.3)
+      reset_word (inr r) = inr (r.0, r.1, r.2, p ∙ ap Ok r.3)
 
       -- another event of the same word is the same event
-      same : {x : Event} → unpacked w ≡ Accepted x → e ≡ x
-      same q = let j : Accepted e ≡ Accepted _ = sym p ∙ q in cc
+      same : {x : Event} → unpacked w ≡ Ok x → e ≡ x
+      same q = let j : Ok e ≡ Ok _ = sym p ∙ q in cc
 
       refused_early : takes s.machine.started e ≡ false → Exactly s w 3
       refused_early k =
@@ -174,9 +173,9 @@ module _ (s : Controller) (w : ℕ) where
           not_started true t = absurd (false≢true (sym k ∙ takes_it s.machine.started e (inl t)))
           not_started false t = t
 
-  by_word_lem : fits s.machine ≡ true → (u : Unpacked) → unpacked w ≡ u → Exactly s w (refusal_of (step_fit s u).answer)
-  by_word_lem f NoEvent p = stray f ((words_refused w).0 p)
-  by_word_lem f (Accepted e) p = by_event_lem f (λ b. accepted_is_none (sym p ∙ (words_refused w).1 b)) e p
+  by_word_lem : fits s.machine ≡ true → (u : Result Event NoEvent) → unpacked w ≡ u → Exactly s w (refusal_of (step_fit s u).answer)
+  by_word_lem f (Err why) p = stray f ((words_refused w).0 p)
+  by_word_lem f (Ok e) p = by_event_lem f (λ b. accepted_is_none (sym p ∙ (words_refused w).1 b)) e p
 
   -- Each refusal is given exactly when the table says.
   pub exactly : Exactly s w (refusal_of (step_of s w).answer)
@@ -186,11 +185,11 @@ module _ (s : Controller) (w : ℕ) where
 -- ---- questions
 
 -- A question about a fit state gives its value with 0; an unfit state is refused with 1 and value 0.
-pub record Answers (s : Controller) (t : Told) (value : ℕ) : Type 0 where
+pub record Answers (s : Controller) (t : Result ℕ Refusal) (value : ℕ) : Type 0 where
   pub refused_1 : fits s.machine ≡ false → (told_refusal t ≡ 1) × (told_value t ≡ 0)
   pub told : fits s.machine ≡ true → (told_refusal t ≡ 0) × (told_value t ≡ value)
 
-told_of : (s : Controller) (value : ℕ) → Answers s (cond (fits s.machine) (Value value) NotFit) value
+told_of : (s : Controller) (value : ℕ) → Answers s (cond (fits s.machine) (Ok value) (Err Unfit)) value
 told_of s value = record { refused_1 = λ f. rw f (refl, refl); told = λ f. rw f (refl, refl) }
 
 pub reading_told : (s : Controller) (a : ℕ) → Answers s (told_reading s a) (reading s.machine a)

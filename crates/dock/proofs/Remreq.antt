@@ -6,8 +6,6 @@ use mathlib.Core.Bool.{true, false, and-not_self, false≢true}
 use Rattle.event.specs.Words.{unpacked}
 use Rattle.event.specs.declared.Event.{Event}
 use Rattle.event.specs.declared.Event.TheVariants.{Start, Stop, Byte, Take, Pins, Tick, Reset, Timeout}
-use Rattle.event.specs.declared.Unpacked.{Unpacked}
-use Rattle.event.specs.declared.Unpacked.TheVariants.{Accepted, StrayBit as NoEvent}
 use Rattle.bus.specs.declared.Progress.{Progress}
 use Rattle.bus.specs.declared.Progress.TheVariants.{Idle, Opened, Addressed, Register, Data, Again, Reading, Sending, Writing}
 use Rattle.bay.specs.Record.{present}
@@ -38,6 +36,8 @@ use Rattle.bus.specs.declared.Heard.{Heard}
 use Rattle.bus.specs.declared.Heard.TheVariants.{On, Write, Read, End}
 use Rattle.bus.specs.Progress.{heard, known_to}
 use Rattle.machine.specs.declared.Act.TheVariants as act
+use Rattle.std.specs.Prelude.{Result, Ok, Err}
+use Rattle.event.specs.declared.NoEvent.{NoEvent}
 
 -- ---- at each event and each word
 
@@ -46,11 +46,11 @@ unfolding remreq_next
 remreq_next_lem s e i = part_next_lem (λ m. remreq m i) (λ m a. remreq_after m i a) (λ a m. remreq_after_lem a m i) s e
 
 -- So REMREQ_STS goes from 0 to 1 only at a TICK that accepts a press with a device present at its end.
-pub record Raised (s : Controller) (i : ℕ) (u : Unpacked) (after : Controller) : Type 0 where
-  pub a_tick : u ≡ Accepted Tick
+pub record Raised (s : Controller) (i : ℕ) (u : Result Event NoEvent) (after : Controller) : Type 0 where
+  pub a_tick : u ≡ Ok Tick
   pub a_press : press_over (hides s.machine) (bay_at s.machine i) (bay_at after.machine i) ≡ true
 
-event_raises : (s : Controller) (e : Event) (i : ℕ) → remreq s.machine i ≡ false → remreq_next s i e ≡ true → Raised s i (Accepted e) (next s e)
+event_raises : (s : Controller) (e : Event) (i : ℕ) → remreq s.machine i ≡ false → remreq_next s i e ≡ true → Raised s i (Ok e) (next s e)
 unfolding next turn_of remreq_next remreq_after
 event_raises s Start i z t = absurd (false≢true (sym z ∙ t))
 event_raises s Stop i z t = absurd (false≢true (sym (stopped (known_to s.machine.kind s.progress)) ∙ t))
@@ -84,12 +84,12 @@ pub remreq_raised :
 unfolding step_of
 remreq_raised s w i z = pick (P (unpacked w)) (fits s.machine) (λ f. word (unpacked w)) (λ f t. absurd (false≢true (sym z ∙ t)))
   where
-    P : Unpacked → Stepped → Type 0
+    P : Result Event NoEvent → Stepped → Type 0
     P u x = remreq x.controller.machine i ≡ true → Raised s i u x.controller
 
-    word : (u : Unpacked) → P u (step_fit s u)
-    word NoEvent = λ t. absurd (false≢true (sym z ∙ t))
-    word (Accepted e) = pick (P (Accepted e)) (takes s.machine.started e) (λ k t. event_raises s e i z (sym (remreq_next_lem s e i) ∙ t)) (λ k t. absurd (false≢true (sym z ∙ t)))
+    word : (u : Result Event NoEvent) → P u (step_fit s u)
+    word (Err why) = λ t. absurd (false≢true (sym z ∙ t))
+    word (Ok e) = pick (P (Ok e)) (takes s.machine.started e) (λ k t. event_raises s e i z (sym (remreq_next_lem s e i) ∙ t)) (λ k t. absurd (false≢true (sym z ∙ t)))
 
 -- ---- a press over nothing, and one as a device arrives, in a reached state
 

@@ -11,12 +11,9 @@ use lib.Dec.{eqb}
 use Rattle.event.specs.Words.{unpacked, is_reset}
 use Rattle.event.specs.declared.Event.{Event}
 use Rattle.event.specs.declared.Event.TheVariants.{Start, Stop, Byte, Take, Pins, Tick, Reset, Timeout}
-use Rattle.event.specs.declared.Unpacked.TheVariants.{Accepted}
 use Rattle.kind.specs.Kind.{numbered}
 use Rattle.kind.specs.declared.Kind.{Kind}
 use Rattle.kind.specs.declared.Kind.TheVariants.{First, Second}
-use Rattle.kind.specs.declared.Numbered.{Numbered}
-use Rattle.kind.specs.declared.Numbered.TheVariants.{Names, Neither}
 use Rattle.bus.specs.Progress.{own_write_byte, own_read_byte, known_to, heard, heard_known, held_known, held_by}
 use Rattle.bus.specs.declared.Progress.{Progress}
 use Rattle.bus.specs.declared.Progress.TheVariants.{Idle, Opened, Addressed, Register, Data, Again, Reading, Writing, Sending}
@@ -44,18 +41,18 @@ use Rattle.dock.specs.Name.{name_fit, name_of}
 use Rattle.dock.specs.Held.{as_held, held_fit}
 use Rattle.dock.specs.Shared.{is_byte, standing_of}
 use Rattle.dock.specs.declared.Controller.{Controller}
-use Rattle.dock.specs.declared.Answer.TheVariants.{NotStarted}
-use Rattle.dock.specs.declared.HeldByte.{HeldByte}
-use Rattle.dock.specs.declared.HeldByte.TheVariants as held
 use Rattle.dock.specs.declared.Renamed.{Renamed}
 use Rattle.dock.specs.declared.Standing.{Standing}
 use Rattle.dock.specs.declared.Stepped.{Stepped}
-use Rattle.dock.specs.declared.Told.TheVariants.{Value}
 use Rattle.dock.proofs.Laws.{step_fit_lem}
 use Rattle.dock.proofs.LeftHeld.{Leaves, left_held, left_by_byte, left_by_take}
 use Rattle.dock.proofs.OpenRead.{told_fit}
 use Rattle.dock.proofs.Parts.{part_next_lem}
 use Rattle.dock.proofs.Refusals.{reset_taken}
+use Rattle.std.specs.Prelude.{Ok, None, Option, Result, Err}
+use Rattle.dock.specs.declared.Refusal.{Refusal}
+use Rattle.dock.specs.declared.Refusal.TheVariants.{NotStarted}
+use Rattle.kind.specs.declared.UnknownKind.{UnknownKind}
 
 -- Whether an event is a BYTE.
 abbrev pub is_byte_event : Event → Bool
@@ -179,12 +176,12 @@ module _ (s : Controller) (w : ℕ) (f : (standing_of s).fit ≡ true) where
   unfolding standing_of
   after_fit = step_fit_lem s w f
 
-  step_is : (e : Event) → unpacked w ≡ Accepted e → step_of s w ≡ step_fit s (Accepted e)
+  step_is : (e : Event) → unpacked w ≡ Ok e → step_of s w ≡ step_fit s (Ok e)
   unfolding step_of standing_of
   step_is e u = rw (f, u)
 
   -- A word that isn't taken leaves the state as it is.
-  kept : (e : Event) → unpacked w ≡ Accepted e → is_reset e ≡ false → ((stands_after s w).started ≡ (standing_of s).started) × ((stands_after s w).address ≡ (standing_of s).address)
+  kept : (e : Event) → unpacked w ≡ Ok e → is_reset e ≡ false → ((stands_after s w).started ≡ (standing_of s).started) × ((stands_after s w).address ≡ (standing_of s).address)
   unfolding standing_of
   kept e u n = rw (step_is e u) (pick Same (takes s.machine.started e) (λ _. (ap (λ x. x.0) lasts, ap (λ x. own_write_byte x.1) lasts)) (λ _. (refl, refl)))
     where
@@ -194,12 +191,12 @@ module _ (s : Controller) (w : ℕ) (f : (standing_of s).fit ≡ true) where
       lasts : lasting (next s e).machine ≡ lasting s.machine
       lasts = event_lasts s e n
 
-  reading_after : (e : Event) (h : HeldByte) → unpacked w ≡ Accepted e → Leaves s e h → (stands_after s w).reading ≡ is_byte h
+  reading_after : (e : Event) (h : Result (Option ℕ) Refusal) → unpacked w ≡ Ok e → Leaves s e h → (stands_after s w).reading ≡ is_byte h
   unfolding standing_of
   reading_after e h u l = ap is_byte (sym (told_fit (step_of s w).controller (step_fit_lem s w f)) ∙ l w u)
 
   reset_leaves :
-      (straps levels : ℕ) (short : Bool) → unpacked w ≡ Accepted (Reset straps levels short)
+      (straps levels : ℕ) (short : Bool) → unpacked w ≡ Ok (Reset straps levels short)
       → stands_after s w ≡ record { fit = true; started = true; address = own_write_byte straps; reading = false }
   unfolding standing_of next turn_of does reset_as
   reset_leaves straps levels short u =
@@ -209,16 +206,16 @@ module _ (s : Controller) (w : ℕ) (f : (standing_of s).fit ≡ true) where
       rw (step_fit_lem s w f, none, is)
 
   -- A state that has a read open after an event that isn't a RESET was started before it.
-  was_started : (e : Event) → unpacked w ≡ Accepted e → is_reset e ≡ false → (stands_after s w).reading ≡ true → (standing_of s).started ≡ true
+  was_started : (e : Event) → unpacked w ≡ Ok e → is_reset e ≡ false → (stands_after s w).reading ≡ true → (standing_of s).started ≡ true
   was_started e u n r = sym (kept e u n).0 ∙ reading_started (step_of s w).controller r
 
-  by_byte : (b : ℕ) → unpacked w ≡ Accepted (Byte b) → (stands_after s w).reading ≡ true → b ≡ (standing_of s).address + 1
+  by_byte : (b : ℕ) → unpacked w ≡ Ok (Byte b) → (stands_after s w).reading ≡ true → b ≡ (standing_of s).address + 1
   unfolding standing_of heard
   by_byte b u r =
       own_read_byte_lem s.machine.kind s.machine.straps b (reading s.machine) (known_to s.machine.kind s.progress)
       (sym (reading_after (Byte b) _ u ((left_held s f).byte b (was_started (Byte b) u refl r))) ∙ r)
 
-  by_others : (e : Event) → unpacked w ≡ Accepted e → is_byte_event e ≡ false → (stands_after s w).reading ≡ true → (standing_of s).reading ≡ true
+  by_others : (e : Event) → unpacked w ≡ Ok e → is_byte_event e ≡ false → (stands_after s w).reading ≡ true → (standing_of s).reading ≡ true
   unfolding standing_of held_fit held_by
   by_others Start u n r = absurd (false≢true (sym (reading_after Start _ u (left_held s f).start) ∙ r))
   by_others Stop u n r = absurd (false≢true (sym (reading_after Stop _ u (left_held s f).stop) ∙ r))
@@ -232,13 +229,13 @@ module _ (s : Controller) (w : ℕ) (f : (standing_of s).fit ≡ true) where
   by_others Timeout u n r = absurd (false≢true (sym (reading_after Timeout _ u (left_held s f).timeout) ∙ r))
 
 -- Each word leaves a fit controller so.
-pub stands : (s : Controller) (w : ℕ) (e : Event) → (standing_of s).fit ≡ true → unpacked w ≡ Accepted e → Stands s w e
+pub stands : (s : Controller) (w : ℕ) (e : Event) → (standing_of s).fit ≡ true → unpacked w ≡ Ok e → Stands s w e
 stands s w e f u =
     record {
       fit = after_fit s w f;
       kept = kept s w f e u;
-      reset = λ straps levels short x. reset_leaves s w f straps levels short (u ∙ ap Accepted x);
-      by_byte = λ b x. by_byte s w f b (u ∙ ap Accepted x);
+      reset = λ straps levels short x. reset_leaves s w f straps levels short (u ∙ ap Ok x);
+      by_byte = λ b x. by_byte s w f b (u ∙ ap Ok x);
       by_others = by_others s w f e u;
     }
 
@@ -249,9 +246,9 @@ pub name_stands : (s : Controller) (n : ℕ) → (standing_of s).fit ≡ true �
 unfolding standing_of name_of held_fit fits does name_to
 name_stands s n f = pick (λ (x : Renamed). standing_of x.controller ≡ standing_of s) (fits s.machine) (λ _. by_number (numbered n)) (λ _. refl)
   where
-    by_number : (k : Numbered) → standing_of (name_fit s k).controller ≡ standing_of s
-    by_number (Names k) = refl
-    by_number Neither = refl
+    by_number : (k : Result Kind UnknownKind) → standing_of (name_fit s k).controller ≡ standing_of s
+    by_number (Ok k) = refl
+    by_number (Err why) = refl
 
 -- How a fresh controller stands.
 pub fresh_stands : standing_of fresh_controller ≡ record { fit = true; started = false; address = own_write_byte 0; reading = false }
@@ -333,14 +330,14 @@ driven_open false r v (inl e) d = let z : ◌≡◌ {A = ℕ} 0 1 = cc in absurd
 driven_open false r v (inr e) d = let z : ◌≡◌ {A = ℕ} 0 1 = cc in absurd (omega arith)
 
 module _ (s : Controller) (w : ℕ) (f : (standing_of s).fit ≡ true) where
-  said_to_byte : (b : ℕ) → unpacked w ≡ Accepted (Byte b) → ToByte (spoken s w)
+  said_to_byte : (b : ℕ) → unpacked w ≡ Ok (Byte b) → ToByte (spoken s w)
   unfolding ToByte turn_of byte_at
   said_to_byte b u =
       rw (step_is s w f (Byte b) u)
       (pick (λ (x : Stepped). ToByte (reply_in x.answer)) (takes s.machine.started (Byte b))
       (λ _. to_byte s.machine.kind (reading s.machine) (heard s.machine.kind s.machine.straps b s.progress)) (λ _. inr (inr refl)))
 
-  said_to_take : (ack : Bool) → unpacked w ≡ Accepted (Take ack) → ToTake (standing_of s).reading (spoken s w)
+  said_to_take : (ack : Bool) → unpacked w ≡ Ok (Take ack) → ToTake (standing_of s).reading (spoken s w)
   unfolding ToTake standing_of held_fit held_by takes turn_of
   said_to_take ack u = rw (step_is s w f (Take ack) u) (go s.machine.started)
     where
@@ -349,18 +346,18 @@ module _ (s : Controller) (w : ℕ) (f : (standing_of s).fit ≡ true) where
 
       go :
           (t : Bool)
-          → ToTake (is_byte (cond t (as_held (held_known known)) held.Nothing))
-          (reply_in (cond (takes t (Take ack)) (done_step s (Take ack)) (refused s NotStarted)).answer)
+          → ToTake (is_byte (cond t (as_held (held_known known)) (Ok None)))
+          (reply_in (cond (takes t (Take ack)) (done_step s (Take ack)) (refused s (Err NotStarted))).answer)
       go true = to_take s.machine.kind (reading s.machine) ack known
       go false = inr refl
 
-  said_to_others : (e : Event) → unpacked w ≡ Accepted e → is_byte_event e ≡ false → is_take_event e ≡ false → spoken s w ≡ Nothing
+  said_to_others : (e : Event) → unpacked w ≡ Ok e → is_byte_event e ≡ false → is_take_event e ≡ false → spoken s w ≡ Nothing
   said_to_others e u n m = rw (step_is s w f e u) (pick (λ (x : Stepped). reply_in x.answer ≡ Nothing) (takes s.machine.started e) (λ _. to_others s e n m) (λ _. refl))
 
   -- By the kind of the event: a BYTE, a TAKE or another.
   by_kind :
       (P : Event → Type 0) → ((b : ℕ) → ToByte (spoken s w) → P (Byte b)) → ((ack : Bool) → ToTake (standing_of s).reading (spoken s w) → P (Take ack))
-      → ((e : Event) → spoken s w ≡ Nothing → P e) → (e : Event) → unpacked w ≡ Accepted e → P e
+      → ((e : Event) → spoken s w ≡ Nothing → P e) → (e : Event) → unpacked w ≡ Ok e → P e
   by_kind P b t o Start u = o Start (said_to_others Start u refl refl)
   by_kind P b t o Stop u = o Stop (said_to_others Stop u refl refl)
   by_kind P b t o (Byte x) u = b x (said_to_byte x u)
@@ -370,25 +367,25 @@ module _ (s : Controller) (w : ℕ) (f : (standing_of s).fit ≡ true) where
   by_kind P b t o (Reset straps levels short) u = o (Reset straps levels short) (said_to_others (Reset straps levels short) u refl refl)
   by_kind P b t o Timeout u = o Timeout (said_to_others Timeout u refl refl)
 
-  ack_of_a_byte : (e : Event) → unpacked w ≡ Accepted e → spoken s w ≡ Ack → is_byte_event e ≡ true
+  ack_of_a_byte : (e : Event) → unpacked w ≡ Ok e → spoken s w ≡ Ack → is_byte_event e ≡ true
   ack_of_a_byte =
       by_kind (λ e. spoken s w ≡ Ack → is_byte_event e ≡ true) (λ b t a. refl) (λ ack t a. absurd (take_not_acked (standing_of s).reading (spoken s w) t a))
       (λ e n a. let z : ◌≡◌ {A = ℕ} 0 1 = cc in absurd (omega arith))
 
-  driven_by_a_take : (e : Event) → unpacked w ≡ Accepted e → (v : ℕ) → spoken s w ≡ Driven v → (is_take_event e ≡ true) × ((standing_of s).reading ≡ true)
+  driven_by_a_take : (e : Event) → unpacked w ≡ Ok e → (v : ℕ) → spoken s w ≡ Driven v → (is_take_event e ≡ true) × ((standing_of s).reading ≡ true)
   driven_by_a_take =
       by_kind (λ e. (v : ℕ) → spoken s w ≡ Driven v → (is_take_event e ≡ true) × ((standing_of s).reading ≡ true))
       (λ b t v d. absurd (byte_not_driven (spoken s w) v t d)) (λ ack t v d. (refl, driven_open (standing_of s).reading (spoken s w) v t d))
       (λ e n v d. let z : ◌≡◌ {A = ℕ} 0 1 = cc in absurd (omega arith))
 
 -- Each word has a fit controller say so.
-pub speaks : (s : Controller) (w : ℕ) (e : Event) → (standing_of s).fit ≡ true → unpacked w ≡ Accepted e → Speaks s w e
+pub speaks : (s : Controller) (w : ℕ) (e : Event) → (standing_of s).fit ≡ true → unpacked w ≡ Ok e → Speaks s w e
 unfolding ToByte ToTake
 speaks s w e f u =
     record {
-      byte = λ b x. said_to_byte s w f b (u ∙ ap Accepted x);
-      take_open = λ ack x o. rw o at (said_to_take s w f ack (u ∙ ap Accepted x));
-      take_closed = λ ack x o. rw o at (said_to_take s w f ack (u ∙ ap Accepted x));
+      byte = λ b x. said_to_byte s w f b (u ∙ ap Ok x);
+      take_open = λ ack x o. rw o at (said_to_take s w f ack (u ∙ ap Ok x));
+      take_closed = λ ack x o. rw o at (said_to_take s w f ack (u ∙ ap Ok x));
       others = said_to_others s w f e u;
       acked = ack_of_a_byte s w f e u;
       driven = driven_by_a_take s w f e u;
@@ -398,19 +395,19 @@ speaks s w e f u =
 
 -- A controller that isn't started passes over any word but a RESET: its state stays, and 3 is answered.
 pub passed_over :
-    (s : Controller) (w : ℕ) (e : Event) → (standing_of s).fit ≡ true → (standing_of s).started ≡ false → is_reset e ≡ false → unpacked w ≡ Accepted e
-    → step_of s w ≡ record { controller = s; answer = NotStarted }
+    (s : Controller) (w : ℕ) (e : Event) → (standing_of s).fit ≡ true → (standing_of s).started ≡ false → is_reset e ≡ false → unpacked w ≡ Ok e
+    → step_of s w ≡ record { controller = s; answer = Err NotStarted }
 unfolding standing_of takes
 passed_over s w e f t n u = step_is s w f e u ∙ rw (t, n)
 
 -- One that is started takes up every word, and a RESET is taken up by any.
 pub taken_up :
-    (s : Controller) (w : ℕ) (e : Event) → (standing_of s).fit ≡ true → unpacked w ≡ Accepted e → ((standing_of s).started ≡ true) ⊎ (is_reset e ≡ true)
+    (s : Controller) (w : ℕ) (e : Event) → (standing_of s).fit ≡ true → unpacked w ≡ Ok e → ((standing_of s).started ≡ true) ⊎ (is_reset e ≡ true)
     → refusal_of (step_of s w).answer ≡ 0
 unfolding standing_of takes
 taken_up s w e f u t = rw (step_is s w f e u) (go s.machine.started (is_reset e) t)
   where
-    go : (a b : Bool) → (a ≡ true) ⊎ (b ≡ true) → refusal_of (cond (a || b) (done_step s e) (refused s NotStarted)).answer ≡ 0
+    go : (a b : Bool) → (a ≡ true) ⊎ (b ≡ true) → refusal_of (cond (a || b) (done_step s e) (refused s (Err NotStarted))).answer ≡ 0
     go true b t = refl
     go false true t = refl
     go false false (inl t) = absurd (false≢true t)
@@ -419,16 +416,16 @@ taken_up s w e f u t = rw (step_is s w f e u) (go s.machine.started (is_reset e)
 -- ---- the outputs
 
 -- A controller that isn't started has all outputs 0.
-pub silent_outputs : (s : Controller) → (standing_of s).fit ≡ true → (standing_of s).started ≡ false → told_outputs s ≡ Value 0
+pub silent_outputs : (s : Controller) → (standing_of s).fit ≡ true → (standing_of s).started ≡ false → told_outputs s ≡ Ok 0
 unfolding standing_of told_outputs
 silent_outputs s f t = rw (f, (silent_before_reset s.machine t).0)
 
 -- The outputs that the single call answers are those of the state that it leaves.
 pub outputs_after_lem :
-    (s : Controller) (w : ℕ) (e : Event) → (standing_of s).fit ≡ true → unpacked w ≡ Accepted e
-    → told_outputs (step_of s w).controller ≡ Value (outputs_of (step_of s w).answer)
+    (s : Controller) (w : ℕ) (e : Event) → (standing_of s).fit ≡ true → unpacked w ≡ Ok e
+    → told_outputs (step_of s w).controller ≡ Ok (outputs_of (step_of s w).answer)
 unfolding standing_of told_outputs takes
 outputs_after_lem s w e f u =
     rw (step_fit_lem s w f, step_is s w f e u)
-    (pick (λ (x : Stepped). Value (outputs x.controller.machine) ≡ Value (outputs_of x.answer)) (takes s.machine.started e) (λ _. refl)
-    (λ n. ap Value (silent_before_reset s.machine (neither _ _ n).0).0))
+    (pick (λ (x : Stepped). ◌≡◌ {A = Result ℕ Refusal} (Ok (outputs x.controller.machine)) (Ok (outputs_of x.answer))) (takes s.machine.started e) (λ _. refl)
+    (λ n. ap Ok (silent_before_reset s.machine (neither _ _ n).0).0))

@@ -5,8 +5,6 @@ use mathlib.Core.Path.{◌≡◌, refl, sym}
 use mathlib.Core.Bool.{Bool, true, false}
 use Rattle.event.specs.Words.{unpacked}
 use Rattle.event.specs.declared.Event.{Event}
-use Rattle.event.specs.declared.Unpacked.{Unpacked}
-use Rattle.event.specs.declared.Unpacked.TheVariants.{Accepted, StrayBit as NoEvent}
 use Rattle.bay.proofs.Taut.{pick, neither}
 use Rattle.machine.specs.Record.{fits}
 use Rattle.machine.specs.Outputs.{outputs}
@@ -16,6 +14,8 @@ use Rattle.dock.specs.Step.{takes, step_fit, step_of, told_outputs}
 use Rattle.dock.specs.declared.Controller.{Controller}
 use Rattle.dock.specs.declared.Stepped.{Stepped}
 use Rattle.dock.proofs.Laws.{step_fit_lem}
+use Rattle.std.specs.Prelude.{Result, Ok, Err}
+use Rattle.event.specs.declared.NoEvent.{NoEvent}
 
 -- A fit state is asked for the outputs that it has, and an unfit one answers 0.
 fit_shown : (s : Controller) → fits s.machine ≡ true → told_value (told_outputs s) ≡ outputs s.machine
@@ -35,9 +35,9 @@ silent s e f = (silent_before_reset s.machine (neither _ _ f).0).0
 abbrev Same : Stepped → Type 0
 Same r = outputs_of r.answer ≡ outputs r.controller.machine
 
-from_fit : (s : Controller) (u : Unpacked) → Same (step_fit s u)
-from_fit s NoEvent = refl
-from_fit s (Accepted e) = pick Same (takes s.machine.started e) (λ t. refl) (λ f. sym (silent s e f))
+from_fit : (s : Controller) (u : Result Event NoEvent) → Same (step_fit s u)
+from_fit s (Err why) = refl
+from_fit s (Ok e) = pick Same (takes s.machine.started e) (λ t. refl) (λ f. sym (silent s e f))
 
 pub shown_after : (s : Controller) (w : ℕ) → outputs_of (step_of s w).answer ≡ told_value (told_outputs (step_of s w).controller)
 unfolding step_of

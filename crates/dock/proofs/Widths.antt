@@ -6,8 +6,6 @@ use mathlib.Core.Bool.{Bool, true, false, cond}
 use Rattle.event.specs.Words.{unpacked}
 use Rattle.event.specs.declared.Event.{Event}
 use Rattle.event.specs.declared.Event.TheVariants.{Start, Stop, Byte, Take, Pins, Tick, Reset, Timeout}
-use Rattle.event.specs.declared.Unpacked.{Unpacked}
-use Rattle.event.specs.declared.Unpacked.TheVariants.{Accepted, StrayBit as NoEvent}
 use Rattle.kind.specs.declared.Kind.{Kind}
 use Rattle.bus.specs.Progress.{known_to, heard, held_known, held_by}
 use Rattle.bus.specs.Reply.{reply_byte}
@@ -19,15 +17,15 @@ use Rattle.bay.proofs.Taut.{pick}
 use Rattle.machine.specs.Record.{fits}
 use Rattle.machine.specs.InForce.{reading}
 use Rattle.machine.proofs.Ranges.{outputs_nine_bits}
-use Rattle.dock.specs.Answers.{byte_of, outputs_of}
+use Rattle.dock.specs.Answers.{byte_of, outputs_of, Answer}
 use Rattle.dock.specs.Events.{turn_of, byte_at, byte_heard, read_at, take_known}
 use Rattle.dock.specs.Step.{takes, done_step, refused, step_fit, step_of}
 use Rattle.dock.specs.Held.{held_value, as_held, held_fit}
 use Rattle.dock.specs.declared.Controller.{Controller}
-use Rattle.dock.specs.declared.Answer.{Answer}
-use Rattle.dock.specs.declared.Answer.TheVariants.{NotStarted}
-use Rattle.dock.specs.declared.HeldByte.TheVariants.{Nothing}
 use Rattle.dock.specs.declared.Stepped.{Stepped}
+use Rattle.std.specs.Prelude.{Result, Ok, Err, None}
+use Rattle.event.specs.declared.NoEvent.{NoEvent}
+use Rattle.dock.specs.declared.Refusal.TheVariants.{NotStarted}
 
 to_byte : (k : Kind) (reads : ℕ → ℕ) (h : Heard) → reply_byte (byte_heard k reads h).reply < 256
 unfolding byte_heard read_at
@@ -55,10 +53,10 @@ Small x = byte_of x.answer < 256
 
 -- A word's answer.
 abbrev answered : Controller → Event → Bool → Answer
-answered s e started = (cond (takes started e) (done_step s e) (refused s NotStarted)).answer
+answered s e started = (cond (takes started e) (done_step s e) (refused s (Err NotStarted))).answer
 
 module _ (s : Controller) where
-  of_take : (ack t : Bool) → held_value (cond t (as_held (held_by s.machine.kind s.progress)) Nothing) < 512 → byte_of (answered s (Take ack) t) < 256
+  of_take : (ack t : Bool) → held_value (cond t (as_held (held_by s.machine.kind s.progress)) (Ok None)) < 512 → byte_of (answered s (Take ack) t) < 256
   unfolding held_by takes turn_of
   of_take ack true h = to_take s.machine.kind (reading s.machine) ack (known_to s.machine.kind s.progress) h
   of_take ack false h = omega arith
@@ -81,9 +79,9 @@ pub byte_wide : (s : Controller) (w : ℕ) → held_value (held_fit s) < 512 →
 unfolding step_of
 byte_wide s w h = pick Small (fits s.machine) (λ _. of_word (unpacked w)) (λ _. omega arith)
   where
-    of_word : (u : Unpacked) → Small (step_fit s u)
-    of_word NoEvent = omega arith
-    of_word (Accepted e) = of_event s e h
+    of_word : (u : Result Event NoEvent) → Small (step_fit s u)
+    of_word (Err why) = omega arith
+    of_word (Ok e) = of_event s e h
 
 -- The outputs, in every state.
 pub outputs_wide : (s : Controller) (w : ℕ) → outputs_of (step_of s w).answer < 512
@@ -93,6 +91,6 @@ outputs_wide s w = pick Nine (fits s.machine) (λ _. of_word (unpacked w)) (λ _
     Nine : Stepped → Type 0
     Nine x = outputs_of x.answer < 512
 
-    of_word : (u : Unpacked) → Nine (step_fit s u)
-    of_word NoEvent = outputs_nine_bits s.machine
-    of_word (Accepted e) = pick Nine (takes s.machine.started e) (λ _. outputs_nine_bits _) (λ _. omega arith)
+    of_word : (u : Result Event NoEvent) → Nine (step_fit s u)
+    of_word (Err why) = outputs_nine_bits s.machine
+    of_word (Ok e) = pick Nine (takes s.machine.started e) (λ _. outputs_nine_bits _) (λ _. omega arith)

@@ -1,6 +1,6 @@
 -- What each event comes to in a controller that is fit and may take it (document 01, "Bus commands"; document 03, "Bus transfers"): how far the
 -- command has come then, what the machine does, and the reply.
-use Rattle.std.specs.Prelude.{ℕ, Bool, true, cond}
+use Rattle.std.specs.Prelude.{ℕ, Bool, true, cond, None, Option, Some}
 use Rattle.event.specs.declared.Event.{Event}
 use Rattle.event.specs.declared.Event.TheVariants.{Start, Stop, Byte, Take, Pins, Tick, Reset, Timeout}
 use Rattle.bus.specs.Progress.{started, heard, holding, known_to, next_register}
@@ -15,22 +15,20 @@ use Rattle.machine.specs.Acts.{does, keeps}
 use Rattle.machine.specs.declared.Machine.{Machine}
 use Rattle.machine.specs.declared.Act.{Act}
 use Rattle.dock.specs.declared.Controller.{Controller}
-use Rattle.dock.specs.declared.Deed.{Deed}
-use Rattle.dock.specs.declared.Deed.TheVariants.{NoDeed, Does}
 use Rattle.dock.specs.declared.Turn.{Turn}
 use Rattle.kind.specs.declared.Kind.{Kind}
 use Rattle.machine.specs.declared.Act.TheVariants as act
 
-abbrev pub turn : Progress → Deed → Reply → Turn
+abbrev pub turn : Progress → Option Act → Reply → Turn
 turn p d r = record { progress = p; deed = d; reply = r }
 
 -- A command ends, whatever it had come to.
 abbrev pub ended : Reply → Turn
-ended r = turn Idle NoDeed r
+ended r = turn Idle None r
 
 -- A START opens a command, goes on with one, or ends it.
 abbrev pub start_at : Kind → Progress → Turn
-start_at k p = turn (started k p) NoDeed Nothing
+start_at k p = turn (started k p) None Nothing
 
 -- A STOP ends the command. In the first kind it decides the write after a data byte: this of the write, or else that. (A progress of the
 -- other kind counts as none.)
@@ -45,21 +43,21 @@ at_stop of other (Reading v) = other
 at_stop of other (Writing r) = other
 at_stop of other (Sending r v) = other
 
-unfoldable pub stop_deed : Kind → Progress → Deed
-stop_deed k p = at_stop Does NoDeed (known_to k p)
+unfoldable pub stop_deed : Kind → Progress → Option Act
+stop_deed k p = at_stop Some None (known_to k p)
 
 abbrev pub stop_at : Kind → Progress → Turn
 stop_at k p = turn Idle (stop_deed k p) Nothing
 
 -- A whole read, of a controller of this kind whose registers read so: what the register reads now is held for the next TAKE.
 unfoldable pub read_at : Kind → (ℕ → ℕ) → ℕ → Reply → Turn
-read_at k reads r reply = turn (holding k r (reads r)) (Does (act.Read r)) reply
+read_at k reads r reply = turn (holding k r (reads r)) (Some (act.Read r)) reply
 
 -- A BYTE that continues a command is ACKed; any other BYTE has reply 2. A read is decided at the own read byte; in the second kind a write
 -- at each data byte, after which the number rises.
 unfoldable pub byte_heard : Kind → (ℕ → ℕ) → Heard → Turn
-byte_heard k reads (On p) = turn p NoDeed Ack
-byte_heard k reads (Write r v) = turn (Writing (next_register r)) (Does (act.Write r v)) Ack
+byte_heard k reads (On p) = turn p None Ack
+byte_heard k reads (Write r v) = turn (Writing (next_register r)) (Some (act.Write r v)) Ack
 byte_heard k reads (Read r) = read_at k reads r Ack
 byte_heard k reads End = ended NoAck
 
@@ -95,15 +93,15 @@ turn_of s Start = start_at s.machine.kind s.progress
 turn_of s Stop = stop_at s.machine.kind s.progress
 turn_of s (Byte b) = byte_at s.machine s.progress b
 turn_of s (Take ack) = take_at s.machine ack s.progress
-turn_of s (Pins levels) = turn s.progress (Does (act.Pins levels)) Nothing
-turn_of s Tick = turn s.progress (Does act.Tick) Nothing
-turn_of s (Reset straps levels short) = turn Idle (Does (act.Reset straps levels short)) Nothing
+turn_of s (Pins levels) = turn s.progress (Some (act.Pins levels)) Nothing
+turn_of s Tick = turn s.progress (Some act.Tick) Nothing
+turn_of s (Reset straps levels short) = turn Idle (Some (act.Reset straps levels short)) Nothing
 turn_of s Timeout = ended Nothing
 
 -- The controller that it leaves.
-abbrev pub done : Deed → Machine → Machine
-done NoDeed m = m
-done (Does a) m = does a m
+abbrev pub done : Option Act → Machine → Machine
+done None m = m
+done (Some a) m = does a m
 
 abbrev pub taken : Turn → Machine → Controller
 taken t m = record { machine = done t.deed m; progress = t.progress }
@@ -112,6 +110,6 @@ unfoldable pub next : Controller → Event → Controller
 next s e = taken (turn_of s e) s.machine
 
 -- It leaves the outputs as they were: no deed, or one of the acts that do.
-abbrev pub kept : Deed → Machine → Bool
-kept NoDeed m = true
-kept (Does a) m = keeps a m
+abbrev pub kept : Option Act → Machine → Bool
+kept None m = true
+kept (Some a) m = keeps a m

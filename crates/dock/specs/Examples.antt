@@ -5,12 +5,11 @@ use Rattle.std.specs.Bool.{beq}
 use Rattle.bits.specs.Bits.{bit}
 use Rattle.machine.specs.Outputs.{outputs}
 use Rattle.machine.specs.InForce.{reading}
-use Rattle.dock.specs.Answers.{refusal_of, reply_of, byte_of, outputs_of}
+use Rattle.dock.specs.Answers.{refusal_of, reply_of, byte_of, outputs_of, Answer}
 use Rattle.dock.specs.Step.{step_of}
 use Rattle.dock.specs.Record.{fresh_controller}
 use Rattle.dock.specs.Run.{after}
 use Rattle.dock.specs.declared.Controller.{Controller}
-use Rattle.dock.specs.declared.Answer.{Answer}
 
 -- ---- the paper's notation as event words
 

@@ -2,12 +2,12 @@
 use Rattle.std.specs.Prelude.{ℕ, ◌≡◌, ◌↔◌, ◌⊎◌, Bool, true, false}
 use Rattle.event.specs.Words.{unpacked, StrayBitSet}
 use Rattle.event.specs.declared.Event.TheVariants.{Reset}
-use Rattle.event.specs.declared.Unpacked.TheVariants.{Accepted}
 use Rattle.machine.specs.Record.{fits}
 use Rattle.dock.specs.declared.Controller.{Controller}
+use Rattle.std.specs.Prelude.{Ok}
 
 abbrev pub IsReset : ℕ → Type 0
-IsReset w = (straps : ℕ) × (levels : ℕ) × (short : Bool) × (unpacked w ≡ Accepted (Reset straps levels short))
+IsReset w = (straps : ℕ) × (levels : ℕ) × (short : Bool) × (unpacked w ≡ Ok (Reset straps levels short))
 
 -- The refusal number n of a word w in a state s. In their order: 1, 2, 3.
 pub record Exactly (s : Controller) (w n : ℕ) : Type 0 where

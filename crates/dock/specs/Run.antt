@@ -3,8 +3,8 @@ use Rattle.std.specs.Prelude.{ℕ, ◌≡◌, List, [], ◌∷◌}
 use Rattle.dock.specs.Record.{fresh_controller}
 use Rattle.dock.specs.Step.{step_of}
 use Rattle.dock.specs.declared.Controller.{Controller}
-use Rattle.dock.specs.declared.Answer.{Answer}
 use Rattle.dock.specs.Name.{name_of}
+use Rattle.dock.specs.Answers.{Answer}
 
 -- The state afterwards.
 unfoldable pub after : Controller → List ℕ → Controller

@@ -6,13 +6,12 @@ use Rattle.std.specs.Bool.{beq}
 use Rattle.bits.specs.Bits.{bit}
 use Rattle.machine.specs.Outputs.{outputs}
 use Rattle.machine.specs.InForce.{reading}
-use Rattle.dock.specs.Answers.{refusal_of, reply_of, byte_of}
+use Rattle.dock.specs.Answers.{refusal_of, reply_of, byte_of, Answer}
 use Rattle.dock.specs.Step.{step_of}
 use Rattle.dock.specs.Name.{name_of, naming_refusal}
 use Rattle.dock.specs.Record.{fresh_controller}
 use Rattle.dock.specs.Run.{Call, word, naming, after_call}
 use Rattle.dock.specs.declared.Controller.{Controller}
-use Rattle.dock.specs.declared.Answer.{Answer}
 
 -- ---- what an example is made of
 

@@ -1,14 +1,14 @@
 // What each event comes to in a controller that is fit and may take it (document 01; document 03, "Bus transfers"): the bus
 // decides, the machine does.
-ghost use Rattle.std.specs.Prelude.{◌≡◌};
+ghost use Rattle.std.specs.Prelude.{◌≡◌, Some};
 ghost use Rattle.machine.specs.InForce.{reading};
 ghost use Rattle.dock.specs.Events.{ended, start_at, stop_at, read_at, byte_at, take_at, turn_of, taken, kept};
 
-use crate::{Controller, Deed, Taken, Turn};
+use crate::{Controller, Taken, Turn};
 use bus::{Heard, Progress, Reply, next_register};
 use event::Event;
 use kind::Kind;
-use machine::{Act, Machine};
+use machine::{Act, Acted, Machine};
 
 // An open command ends, and the event is spent with it.
 fn ended(reply: Reply) -> Turn
@@ -16,7 +16,7 @@ fn ended(reply: Reply) -> Turn
 {
     Turn {
         progress: Progress::Idle,
-        deed: Deed::NoDeed,
+        deed: None,
         reply,
     }
 }
@@ -27,7 +27,7 @@ fn start(kind: Kind, progress: Progress) -> Turn
 {
     Turn {
         progress: progress.start(kind),
-        deed: Deed::NoDeed,
+        deed: None,
         reply: Reply::Nothing,
     }
 }
@@ -48,10 +48,9 @@ fn stop(kind: Kind, progress: Progress) -> Turn
 fn read(machine: Machine, register: u8, reply: Reply) -> Turn
     ensures { result ≡ read_at machine.kind (reading machine) register reply }
 {
-    let kind = machine.kind;
     Turn {
-        progress: Progress::holding(kind, register, machine.reading(register)),
-        deed: Deed::Does(Act::Read(register)),
+        progress: Progress::holding(machine.kind, register, machine.reading(register)),
+        deed: Some(Act::Read(register)),
         reply,
     }
 }
@@ -61,16 +60,15 @@ fn read(machine: Machine, register: u8, reply: Reply) -> Turn
 fn byte(machine: Machine, progress: Progress, byte: u8) -> Turn
     ensures { result ≡ byte_at machine progress byte }
 {
-    let kind = machine.kind;
-    match progress.byte(kind, machine.straps, byte) {
+    match progress.byte(machine.kind, machine.straps, byte) {
         Heard::On(next) => Turn {
             progress: next,
-            deed: Deed::NoDeed,
+            deed: None,
             reply: Reply::Ack,
         },
         Heard::Write { register, value } => Turn {
             progress: Progress::Writing(next_register(register)),
-            deed: Deed::Does(Act::Write { register, value }),
+            deed: Some(Act::Write { register, value }),
             reply: Reply::Ack,
         },
         Heard::Read(register) => {
@@ -87,8 +85,7 @@ fn byte(machine: Machine, progress: Progress, byte: u8) -> Turn
 fn take(machine: Machine, progress: Progress, ack: bool) -> Turn
     ensures { result ≡ take_at machine ack progress }
 {
-    let kind = machine.kind;
-    match progress.known(kind) {
+    match progress.known(machine.kind) {
         Progress::Reading(value) => ended(Reply::Driven(value)),
         Progress::Sending { register, value } => {
             if ack {
@@ -104,11 +101,11 @@ fn take(machine: Machine, progress: Progress, ack: bool) -> Turn
 
 // The machine is to do an act, and there is no reply.
 fn decided(progress: Progress, act: Act) -> Turn
-    ensures { result ≡ record { progress = progress; deed = Deed.Does act; reply = Reply.Nothing } }
+    ensures { result ≡ record { progress = progress; deed = Some act; reply = Reply.Nothing } }
 {
     Turn {
         progress,
-        deed: Deed::Does(act),
+        deed: Some(act),
         reply: Reply::Nothing,
     }
 }
@@ -119,12 +116,10 @@ impl Controller {
     pub(crate) fn turn(self, event: Event) -> Turn
         ensures { result ≡ turn_of self event }
     {
-        let machine = self.machine;
-        let kind = machine.kind;
-        let progress = self.progress;
+        let Controller { machine, progress } = self;
         match event {
-            Event::Start => start(kind, progress),
-            Event::Stop => stop(kind, progress),
+            Event::Start => start(machine.kind, progress),
+            Event::Stop => stop(machine.kind, progress),
             Event::Byte(value) => byte(machine, progress, value),
             Event::Take(ack) => take(machine, progress, ack),
             Event::Pins(levels) => decided(progress, Act::Pins(levels)),
@@ -153,22 +148,17 @@ impl Turn {
     pub(crate) fn taken(self, machine: Machine) -> Taken
         ensures { result ≡ record { controller = taken self machine; keeps = kept self.deed machine } }
     {
-        let deed = self.deed;
         let progress = self.progress;
-        let Deed::Does(act) = deed else {
+        let Some(act) = self.deed else {
             return Taken {
                 controller: Controller { machine, progress },
                 keeps: true,
             };
         };
-        let acted = machine.does(act);
-        let after = acted.machine;
+        let Acted { machine, keeps } = machine.does(act);
         Taken {
-            controller: Controller {
-                machine: after,
-                progress,
-            },
-            keeps: acted.keeps,
+            controller: Controller { machine, progress },
+            keeps,
         }
     }
 }

@@ -1,53 +1,34 @@
 // The byte that an open read holds (document 02, request 7), from which SDAT is driven outside.
 ghost use Rattle.std.specs.Prelude.{◌≡◌};
-ghost use Rattle.dock.specs.Held.{held_refusal, held_value, told_held};
+ghost use Rattle.dock.specs.Held.{value_held, told_held};
 
-use crate::{Controller, HeldByte};
-use bus::Holds;
+use crate::{Controller, Refusal};
 
 // What stands above the byte where one is held: a byte 00h isn't none.
 const HELD: u16 = 256;
 
-impl HeldByte {
-    pub fn refusal(self) -> u8
-        ensures { result ≡ held_refusal self }
-    {
-        match self {
-            HeldByte::Byte(_) => 0,
-            HeldByte::Nothing => 0,
-            HeldByte::Unfit => 1,
-        }
-    }
-
-    pub fn value(self) -> u16
-        ensures { result ≡ held_value self }
-    {
-        match self {
-            HeldByte::Byte(value) => HELD + value as u16,
-            HeldByte::Nothing => 0,
-            HeldByte::Unfit => 0,
-        }
+// The byte in numbers, 0 where none is held.
+pub fn held_value(held: Option<u8>) -> u16
+    ensures { result ≡ value_held held }
+{
+    match held {
+        Some(byte) => HELD + byte as u16,
+        None => 0,
     }
 }
 
 impl Controller {
-    // The byte that the next TAKE would drive. Before the first RESET no read is open, whatever the progress of a state.
+    // The byte that the next TAKE would drive, where a read is open. Before the first RESET none is, whatever the progress of a state.
     #[tactic(auto, unfolding(crate::specs::Held::told_held, crate::specs::Held::held_fit))]
-    pub fn held(self) -> HeldByte
+    pub fn held(self) -> Result<Option<u8>, Refusal>
         ensures { result ≡ told_held self }
     {
         if !self.fit() {
-            return HeldByte::Unfit;
+            return Err(Refusal::Unfit);
         }
-        let machine = self.machine;
-        if !machine.started {
-            return HeldByte::Nothing;
+        if !self.machine.started {
+            return Ok(None);
         }
-        let kind = machine.kind;
-        let progress = self.progress;
-        let Holds::Byte(value) = progress.held(kind) else {
-            return HeldByte::Nothing;
-        };
-        HeldByte::Byte(value)
+        Ok(self.progress.held(self.machine.kind))
     }
 }

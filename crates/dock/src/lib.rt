@@ -11,21 +11,28 @@ mod record;
 mod shared;
 mod step;
 
+pub use answers::{outputs_of, reply_in};
 use bus::{Progress, Reply};
+pub use held::held_value;
 use machine::{Act, Machine};
 
 // Any value of any field may come in; `fit` tells the ones that the rules can step.
-#[derive(Clone, Copy)]
+#[derive(Clone, Copy, PartialEq, Eq)]
 pub struct Controller {
     pub machine: Machine,
     pub progress: Progress,
 }
 
-// What the single call answers.
-#[derive(Clone, Copy)]
-pub enum Answer {
-    // The event was acted on: the reply, and the outputs afterwards.
-    Done(Reply, u16),
+// The event was acted on: the reply, and the outputs afterwards.
+#[derive(Clone, Copy, PartialEq, Eq)]
+pub struct Done {
+    pub reply: Reply,
+    pub outputs: u16,
+}
+
+// Why an event, or a question about a state, is refused.
+#[derive(Clone, Copy, PartialEq, Eq)]
+pub enum Refusal {
     // The state isn't fit.
     Unfit,
     // A bit of the word that must be 0 is set: the outputs as they were.
@@ -33,6 +40,18 @@ pub enum Answer {
     // No RESET yet, and this isn't one.
     NotStarted,
 }
+
+// The paper's numbers of an answer, one for each column of its table.
+#[derive(Clone, Copy, PartialEq, Eq)]
+pub struct Numbers {
+    pub refusal: u8,
+    pub reply: u8,
+    pub byte: u8,
+    pub outputs: u16,
+}
+
+// What the single call answers.
+pub type Answer = Result<Done, Refusal>;
 
 #[derive(Clone, Copy)]
 pub struct Stepped {
@@ -54,7 +73,8 @@ pub struct Went {
 pub struct Turn {
     // How far the command has come then.
     pub progress: Progress,
-    pub deed: Deed,
+    // What it has the machine do.
+    pub deed: Option<Act>,
     pub reply: Reply,
 }
 
@@ -66,18 +86,9 @@ struct Taken {
     keeps: bool,
 }
 
-// What an event has the machine do.
-#[derive(Clone, Copy)]
-pub enum Deed {
-    NoDeed,
-    Does(Act),
-}
-
-// What the call that names a kind answers.
-#[derive(Clone, Copy)]
-pub enum Naming {
-    // The name is stored.
-    Stored,
+// Why a name is refused.
+#[derive(Clone, Copy, PartialEq, Eq)]
+pub enum NamingRefusal {
     // The state isn't fit.
     Unfit,
     // The number is of neither kind.
@@ -87,24 +98,8 @@ pub enum Naming {
 #[derive(Clone, Copy)]
 pub struct Renamed {
     pub controller: Controller,
-    pub naming: Naming,
-}
-
-// What a question about a state answers.
-#[derive(Clone, Copy)]
-pub enum Told {
-    Value(u16),
-    Unfit,
-}
-
-// What the question for the byte that an open read holds answers.
-#[derive(Clone, Copy)]
-pub enum HeldByte {
-    Byte(u8),
-    // No read is open.
-    Nothing,
-    // The state isn't fit.
-    Unfit,
+    // The name is stored, or it is refused.
+    pub naming: Result<(), NamingRefusal>,
 }
 
 // How a controller stands on a bus that it shares with others.

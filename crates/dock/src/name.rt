@@ -1,19 +1,19 @@
 // The call that names a kind of controller (document 02, request 2; document 03, "Naming the kind"): it is no event, has no reply and no
 // outputs, and is taken before the first RESET too.
 ghost use Rattle.std.specs.Prelude.{◌≡◌};
-ghost use Rattle.dock.specs.Name.{naming_refusal, name_of};
+ghost use Rattle.dock.specs.Name.{naming_number, name_of};
 
-use crate::{Controller, Naming, Renamed};
-use kind::{Kind, Numbered};
+use crate::{Controller, NamingRefusal, Renamed};
+use kind::Kind;
 
-impl Naming {
-    pub fn refusal(self) -> u8
-        ensures { result ≡ naming_refusal self }
+impl NamingRefusal {
+    // The paper's number.
+    pub fn number(self) -> u8
+        ensures { result ≡ naming_number self }
     {
         match self {
-            Naming::Stored => 0,
-            Naming::Unfit => 1,
-            Naming::NoSuchKind => 14,
+            NamingRefusal::Unfit => 1,
+            NamingRefusal::NoSuchKind => 14,
         }
     }
 }
@@ -27,21 +27,22 @@ impl Controller {
         if !self.fit() {
             return Renamed {
                 controller: self,
-                naming: Naming::Unfit,
+                naming: Err(NamingRefusal::Unfit),
             };
         }
-        let Numbered::Names(kind) = Kind::numbered(number) else {
+        let Ok(kind) = Kind::try_from(number) else {
             return Renamed {
                 controller: self,
-                naming: Naming::NoSuchKind,
+                naming: Err(NamingRefusal::NoSuchKind),
             };
         };
         // Not by `does`, which stays a part of the one function that calls it, so that no event has its record copied.
-        let machine = self.machine.name(kind);
-        let progress = self.progress;
         Renamed {
-            controller: Controller { machine, progress },
-            naming: Naming::Stored,
+            controller: Controller {
+                machine: self.machine.name(kind),
+                ..self
+            },
+            naming: Ok(()),
         }
     }
 }

@@ -4,7 +4,6 @@ ghost use Rattle.dock.specs.Held.{held_fit};
 ghost use Rattle.dock.specs.Shared.{is_byte, standing_of};
 
 use crate::{Controller, Standing};
-use bus::Holds;
 
 impl Controller {
     // A read is open; before the first RESET none is, whatever the progress of a state.
@@ -12,16 +11,7 @@ impl Controller {
     fn drives(self) -> bool
         ensures { result ≡ is_byte (held_fit self) }
     {
-        let machine = self.machine;
-        if !machine.started {
-            return false;
-        }
-        let kind = machine.kind;
-        let progress = self.progress;
-        let Holds::Byte(_) = progress.held(kind) else {
-            return false;
-        };
-        true
+        self.machine.started && self.progress.held(self.machine.kind).is_some()
     }
 
     // Asked of any state, fit or not, and changes nothing.
@@ -29,11 +19,10 @@ impl Controller {
     pub fn standing(self) -> Standing
         ensures { result ≡ standing_of self }
     {
-        let machine = self.machine;
         Standing {
             fit: self.fit(),
-            started: machine.started,
-            address: bus::own_write(machine.straps),
+            started: self.machine.started,
+            address: bus::own_write(self.machine.straps),
             reading: self.drives(),
         }
     }

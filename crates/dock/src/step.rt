@@ -4,8 +4,7 @@ ghost use Rattle.std.specs.Prelude.{◌≡◌};
 ghost use Rattle.event.specs.Words.{unpacked};
 ghost use Rattle.dock.specs.Step.{step_of, takes_word, untaken, went_of, told_reading, told_outputs};
 
-use crate::{Answer, Controller, Stepped, Told, Went};
-use event::Unpacked;
+use crate::{Answer, Controller, Done, Refusal, Stepped, Taken, Went};
 
 // A controller that isn't started takes only a RESET.
 fn takes(started: bool, word: u16) -> bool
@@ -18,11 +17,10 @@ fn takes(started: bool, word: u16) -> bool
 fn untaken(shown: u16, word: u16) -> Answer
     ensures { result ≡ untaken shown (unpacked word) }
 {
-    let unpacked = event::unpack(word);
-    let Unpacked::Accepted(_) = unpacked else {
-        return Answer::StrayBit(shown);
-    };
-    Answer::NotStarted
+    match event::unpack(word) {
+        Ok(_) => Err(Refusal::NotStarted),
+        Err(_) => Err(Refusal::StrayBit(shown)),
+    }
 }
 
 impl Controller {
@@ -45,21 +43,20 @@ impl Controller {
         if !takes(self.machine.started, word) {
             return self.refused(untaken(shown, word), shown);
         }
-        let Unpacked::Accepted(event) = event::unpack(word) else {
-            return self.refused(Answer::StrayBit(shown), shown);
+        let Ok(event) = event::unpack(word) else {
+            return self.refused(Err(Refusal::StrayBit(shown)), shown);
         };
         let turn = self.turn(event);
         let reply = turn.reply;
-        let taken = turn.taken(self.machine);
-        let controller = taken.controller;
-        let outputs = if taken.keeps {
+        let Taken { controller, keeps } = turn.taken(self.machine);
+        let outputs = if keeps {
             shown
         } else {
             controller.machine.outputs()
         };
         Went {
             controller,
-            answer: Answer::Done(reply, outputs),
+            answer: Ok(Done { reply, outputs }),
             outputs,
         }
     }
@@ -72,36 +69,38 @@ impl Controller {
         if !self.fit() {
             return Stepped {
                 controller: self,
-                answer: Answer::Unfit,
+                answer: Err(Refusal::Unfit),
             };
         }
-        let went = self.goes(self.machine.outputs(), word);
-        let controller = went.controller;
-        let answer = went.answer;
+        let Went {
+            controller,
+            answer,
+            ..
+        } = self.goes(self.machine.outputs(), word);
         Stepped { controller, answer }
     }
 
     // One register's reading, outside the bus.
     #[tactic(auto, unfolding(crate::specs::Step::told_reading))]
-    pub fn reading(self, address: u8) -> Told
+    pub fn reading(self, address: u8) -> Result<u16, Refusal>
         ensures { result ≡ told_reading self address }
     {
         if self.fit() {
-            Told::Value(self.machine.reading(address) as u16)
+            Ok(self.machine.reading(address) as u16)
         } else {
-            Told::Unfit
+            Err(Refusal::Unfit)
         }
     }
 
     // The nine outputs, outside the bus.
     #[tactic(auto, unfolding(crate::specs::Step::told_outputs))]
-    pub fn outputs(self) -> Told
+    pub fn outputs(self) -> Result<u16, Refusal>
         ensures { result ≡ told_outputs self }
     {
         if self.fit() {
-            Told::Value(self.machine.outputs())
+            Ok(self.machine.outputs())
         } else {
-            Told::Unfit
+            Err(Refusal::Unfit)
         }
     }
 }

@@ -11,16 +11,16 @@ use Rattle.bits.specs.Straps.{MOST_STRAPS}
 use Rattle.event.specs.Words.{kind_of, field_of, bits_of, event_of, accept, unpacked, reset_data, word_of, straps_of, packed, word_unless, Bytes}
 use Rattle.event.specs.declared.Event.{Event}
 use Rattle.event.specs.declared.Event.TheVariants.{Start, Stop, Byte, Take, Pins, Tick, Reset, Timeout}
-use Rattle.event.specs.declared.Unpacked.TheVariants.{Accepted, StrayBit}
-use Rattle.event.specs.declared.Packed.TheVariants.{Word, StrapsTooLarge}
 use Rattle.event.proofs.Rows.{by_kind}
+use Rattle.std.specs.Prelude.{Ok, Err}
+use Rattle.event.specs.Words.{no_event, no_word}
 
 -- ---- an answer is not the other
 
-pub accepted_is_none : {e : Event} → Accepted e ≡ StrayBit → ⊥
+pub accepted_is_none : {e : Event} → Ok e ≡ Err no_event → ⊥
 accepted_is_none p = let z : ◌≡◌ {A = ℕ} 0 1 = cc in omega arith
 
-pub word_is_none : {w : ℕ} → Word w ≡ StrapsTooLarge → ⊥
+pub word_is_none : {w : ℕ} → Ok w ≡ Err no_word → ⊥
 word_is_none p = let z : ◌≡◌ {A = ℕ} 0 1 = cc in omega arith
 
 -- ---- from a word to its event and back
@@ -36,55 +36,55 @@ bit_back weight d h = go (eqb d 1) refl
 reset_data_lem : (d : ℕ) → d < 8192 → reset_data (d / 256 % 16) (d % 256) (bit 12 d) ≡ d
 reset_data_lem d l = omega (arith, bit_back 4096 (d / 4096 % 2) (omega arith))
 
-packs_back : (d k : ℕ) → k < 8 → d < 2 ^ bits_of k → packed (event_of k d) ≡ Word (k * 8192 + d)
+packs_back : (d k : ℕ) → k < 8 → d < 2 ^ bits_of k → packed (event_of k d) ≡ Ok (k * 8192 + d)
 unfolding packed word_of straps_of
 packs_back d =
-    by_kind (λ k. k < 8 → d < 2 ^ bits_of k → packed (event_of k d) ≡ Word (k * 8192 + d))
-    (λ h l. ap Word (omega arith)) (λ h l. ap Word (omega arith)) (λ h l. refl) (λ h l. ap Word (omega (arith, bit_back 1 d l)))
-    (λ h l. refl) (λ h l. ap Word (omega arith)) (λ h l. rw (le-ltb MOST_STRAPS (d / 256 % 16) (omega arith)) (ap (λ n. Word (6 * 8192 + n)) (reset_data_lem d l)))
-    (λ h l. ap Word (omega arith)) (λ n h l. absurd (omega arith))
+    by_kind (λ k. k < 8 → d < 2 ^ bits_of k → packed (event_of k d) ≡ Ok (k * 8192 + d))
+    (λ h l. ap Ok (omega arith)) (λ h l. ap Ok (omega arith)) (λ h l. refl) (λ h l. ap Ok (omega (arith, bit_back 1 d l)))
+    (λ h l. refl) (λ h l. ap Ok (omega arith)) (λ h l. rw (le-ltb MOST_STRAPS (d / 256 % 16) (omega arith)) (ap (λ n. Ok (6 * 8192 + n)) (reset_data_lem d l)))
+    (λ h l. ap Ok (omega arith)) (λ n h l. absurd (omega arith))
 
 -- The event of a word is that of its row, and its data have no more bits than the row gives them.
-pub accepted_row : (w : ℕ) (e : Event) → unpacked w ≡ Accepted e → (field_of w < 2 ^ bits_of (kind_of w)) × (event_of (kind_of w) (field_of w) ≡ e)
+pub accepted_row : (w : ℕ) (e : Event) → unpacked w ≡ Ok e → (field_of w < 2 ^ bits_of (kind_of w)) × (event_of (kind_of w) (field_of w) ≡ e)
 unfolding unpacked
 accepted_row w e p = go (ltb (field_of w) (2 ^ bits_of (kind_of w))) refl p
   where
     go :
-        (b : Bool) → ltb (field_of w) (2 ^ bits_of (kind_of w)) ≡ b → accept b (event_of (kind_of w) (field_of w)) ≡ Accepted e
+        (b : Bool) → ltb (field_of w) (2 ^ bits_of (kind_of w)) ≡ b → accept b (event_of (kind_of w) (field_of w)) ≡ Ok e
         → (field_of w < 2 ^ bits_of (kind_of w)) × (event_of (kind_of w) (field_of w) ≡ e)
     go true t q = (ltb-true _ _ t, cc)
     go false t q = absurd (accepted_is_none (sym q))
 
-pub word_back : (w : ℕ) → w < 2 ^ 16 → (e : Event) → unpacked w ≡ Accepted e → packed e ≡ Word w
+pub word_back : (w : ℕ) → w < 2 ^ 16 → (e : Event) → unpacked w ≡ Ok e → packed e ≡ Ok w
 word_back w l e p =
     let row = accepted_row w e p in
-    rw (← row.1) (packs_back (field_of w) (kind_of w) (omega arith) row.0 ∙ ap Word (omega arith))
+    rw (← row.1) (packs_back (field_of w) (kind_of w) (omega arith) row.0 ∙ ap Ok (omega arith))
 
 -- ---- from an event to its word and back
 
-unpacks_back : (k d : ℕ) → d < 8192 → d < 2 ^ bits_of k → unpacked (k * 8192 + d) ≡ Accepted (event_of k d)
+unpacks_back : (k d : ℕ) → d < 8192 → d < 2 ^ bits_of k → unpacked (k * 8192 + d) ≡ Ok (event_of k d)
 unfolding unpacked
 unpacks_back k d l h =
     let kind : kind_of (k * 8192 + d) ≡ k = omega arith in
     let field : field_of (k * 8192 + d) ≡ d = omega arith in
     rw (kind, field, lt-ltb d (2 ^ bits_of k) h)
 
-take_back : (b : Bool) → unpacked (3 * 8192 + put 0 b) ≡ Accepted (Take b)
+take_back : (b : Bool) → unpacked (3 * 8192 + put 0 b) ≡ Ok (Take b)
 take_back true = unpacks_back 3 1 (omega arith) (omega arith)
 take_back false = unpacks_back 3 0 (omega arith) (omega arith)
 
-reset_at : (b s l : ℕ) → b < 2 → s < 16 → l < 256 → unpacked (6 * 8192 + (b * 4096 + (s * 256 + l))) ≡ Accepted (Reset s l (eqb b 1))
+reset_at : (b s l : ℕ) → b < 2 → s < 16 → l < 256 → unpacked (6 * 8192 + (b * 4096 + (s * 256 + l))) ≡ Ok (Reset s l (eqb b 1))
 reset_at b s l h p q =
     let asked : (b * 4096 + (s * 256 + l)) / 4096 % 2 ≡ b = omega arith in
     let high : (b * 4096 + (s * 256 + l)) / 256 % 16 ≡ s = omega arith in
     let low : (b * 4096 + (s * 256 + l)) % 256 ≡ l = omega arith in
     unpacks_back 6 (b * 4096 + (s * 256 + l)) (omega arith) (omega arith) ∙ rw (asked, high, low)
 
-reset_back : (s l : ℕ) (short : Bool) → s < 16 → l < 256 → unpacked (6 * 8192 + reset_data s l short) ≡ Accepted (Reset s l short)
+reset_back : (s l : ℕ) (short : Bool) → s < 16 → l < 256 → unpacked (6 * 8192 + reset_data s l short) ≡ Ok (Reset s l short)
 reset_back s l true = reset_at 1 s l (omega arith)
 reset_back s l false = reset_at 0 s l (omega arith)
 
-pub accepted_back : (e : Event) → Bytes e → straps_of e < 16 → unpacked (word_of e) ≡ Accepted e
+pub accepted_back : (e : Event) → Bytes e → straps_of e < 16 → unpacked (word_of e) ≡ Ok e
 unfolding word_of straps_of Bytes
 accepted_back Start t s = unpacks_back 0 0 (omega arith) (omega arith)
 accepted_back Stop t s = unpacks_back 1 0 (omega arith) (omega arith)
@@ -95,10 +95,10 @@ accepted_back Tick t s = unpacks_back 5 0 (omega arith) (omega arith)
 accepted_back (Reset s l short) t h = reset_back s l short h t.1
 accepted_back Timeout t s = unpacks_back 7 0 (omega arith) (omega arith)
 
-pub event_back : (e : Event) → Bytes e → (w : ℕ) → packed e ≡ Word w → unpacked w ≡ Accepted e
+pub event_back : (e : Event) → Bytes e → (w : ℕ) → packed e ≡ Ok w → unpacked w ≡ Ok e
 unfolding packed
 event_back e t w p = go (ltb MOST_STRAPS (straps_of e)) refl p
   where
-    go : (b : Bool) → ltb MOST_STRAPS (straps_of e) ≡ b → word_unless b (word_of e) ≡ Word w → unpacked w ≡ Accepted e
+    go : (b : Bool) → ltb MOST_STRAPS (straps_of e) ≡ b → word_unless b (word_of e) ≡ Ok w → unpacked w ≡ Ok e
     go true s q = absurd (word_is_none (sym q))
     go false s q = let same : word_of e ≡ w = cc in rw (← same) (accepted_back e t (omega (arith, ltb-false MOST_STRAPS (straps_of e) s)))

@@ -4,10 +4,9 @@ use Rattle.bits.specs.Bits.{bit, put}
 use Rattle.bits.specs.Straps.{MOST_STRAPS}
 use Rattle.event.specs.declared.Event.{Event}
 use Rattle.event.specs.declared.Event.TheVariants.{Start, Stop, Byte, Take, Pins, Tick, Reset, Timeout}
-use Rattle.event.specs.declared.Unpacked.{Unpacked}
-use Rattle.event.specs.declared.Unpacked.TheVariants.{Accepted, StrayBit}
-use Rattle.event.specs.declared.Packed.{Packed}
-use Rattle.event.specs.declared.Packed.TheVariants.{Word, StrapsTooLarge}
+use Rattle.std.specs.Prelude.{Result, Ok, Err}
+use Rattle.event.specs.declared.NoEvent.{NoEvent}
+use Rattle.event.specs.declared.NoWord.{NoWord}
 
 -- A row of the table: how many bits the data of the kind has, from bit 0 up, and the event that the data make.
 pub record Row : Type 0 where
@@ -58,12 +57,18 @@ field_of w = w % KIND
 abbrev pub is_reset_word : ℕ → Bool
 is_reset_word w = eqb (kind_of w) 6
 
-abbrev pub accept : Bool → Event → Unpacked
-accept true e = Accepted e
-accept false e = StrayBit
+abbrev pub no_event : NoEvent
+no_event = record {}
+
+abbrev pub no_word : NoWord
+no_word = record {}
+
+abbrev pub accept : Bool → Event → Result Event NoEvent
+accept true e = Ok e
+accept false e = (Err no_event)
 
 -- All bits but the kind and its data are 0; a word that has one set is refused and gives no event.
-unfoldable pub unpacked : ℕ → Unpacked
+unfoldable pub unpacked : ℕ → Result Event NoEvent
 unpacked w = accept (ltb (field_of w) (2 ^ bits_of (kind_of w))) (event_of (kind_of w) (field_of w))
 
 abbrev word : ℕ → ℕ → ℕ
@@ -105,26 +110,26 @@ straps_of Tick = 0
 straps_of (Reset s l short) = s
 straps_of Timeout = 0
 
-abbrev pub word_unless : Bool → ℕ → Packed
-word_unless true w = StrapsTooLarge
-word_unless false w = Word w
+abbrev pub word_unless : Bool → ℕ → Result ℕ NoWord
+word_unless true w = (Err no_word)
+word_unless false w = Ok w
 
 -- Packing an event whose straps exceed 15 is refused.
-unfoldable pub packed : Event → Packed
+unfoldable pub packed : Event → Result ℕ NoWord
 packed e = word_unless (ltb MOST_STRAPS (straps_of e)) (word_of e)
 
 -- The paper's number for each answer, and the word that comes back.
-abbrev pub unpack_refusal : Unpacked → ℕ
-unpack_refusal (Accepted e) = 0
-unpack_refusal StrayBit = 2
+abbrev pub unpack_refusal : Result Event NoEvent → ℕ
+unpack_refusal (Ok e) = 0
+unpack_refusal (Err why) = 2
 
-abbrev pub pack_refusal : Packed → ℕ
-pack_refusal (Word w) = 0
-pack_refusal StrapsTooLarge = 6
+abbrev pub pack_refusal : Result ℕ NoWord → ℕ
+pack_refusal (Ok w) = 0
+pack_refusal (Err why) = 6
 
-abbrev pub pack_word : Packed → ℕ
-pack_word (Word w) = w
-pack_word StrapsTooLarge = 0
+abbrev pub pack_word : Result ℕ NoWord → ℕ
+pack_word (Ok w) = w
+pack_word (Err why) = 0
 
 -- A bit that must be 0 is set: one of those below the kind, above the kind's data.
 abbrev pub StrayBitSet : ℕ → Type 0

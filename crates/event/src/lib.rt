@@ -2,14 +2,13 @@
 // data, and its packing into 16 bits. `specs/Words.antt` has the table and what each call answers.
 #![tactic(auto)]
 
-ghost use Rattle.std.specs.Prelude.{◌≡◌, ◌<◌, ◌≤◌, ◌+◌, ◌*◌, ◌^◌};
+ghost use Rattle.std.specs.Prelude.{◌≡◌, ◌<◌, ◌≤◌, ◌+◌, ◌*◌, ◌^◌, Err};
 ghost use Rattle.bits.specs.Straps.{MOST_STRAPS};
-ghost use Rattle.event.specs.Words.{KIND, bits_of, event_of, unpacked, is_reset, is_reset_word, reset_data, packed};
-ghost use Rattle.event.specs.Words.{unpack_refusal, pack_refusal, pack_word};
+ghost use Rattle.event.specs.Words.{KIND, bits_of, event_of, unpacked, is_reset, is_reset_word, reset_data, packed, pack_word, unpack_refusal, pack_refusal};
 
 use bits::straps;
 
-#[derive(Clone, Copy)]
+#[derive(Clone, Copy, PartialEq, Eq)]
 pub enum Event {
     Start,
     Stop,
@@ -30,19 +29,13 @@ pub enum Event {
     Timeout,
 }
 
-// What unpacking a word answers.
-#[derive(Clone, Copy)]
-pub enum Unpacked {
-    Accepted(Event),
-    StrayBit,
-}
+// A word with a bit set that must be 0.
+#[derive(Clone, Copy, PartialEq, Eq)]
+pub struct NoEvent;
 
-// What packing an event answers.
-#[derive(Clone, Copy)]
-pub enum Packed {
-    Word(u16),
-    StrapsTooLarge,
-}
+// An event whose straps exceed 15.
+#[derive(Clone, Copy, PartialEq, Eq)]
+pub struct NoWord;
 
 impl Event {
     // One more in bits 15-13, the kind.
@@ -59,20 +52,7 @@ impl Event {
     pub fn is_reset(self) -> bool
         ensures { result ≡ is_reset self }
     {
-        match self {
-            Event::Start => false,
-            Event::Stop => false,
-            Event::Byte(_) => false,
-            Event::Take(_) => false,
-            Event::Pins(_) => false,
-            Event::Tick => false,
-            Event::Reset {
-                straps: _,
-                levels: _,
-                short_pulse: _,
-            } => true,
-            Event::Timeout => false,
-        }
+        matches!(self, Event::Reset { .. })
     }
 }
 
@@ -112,24 +92,24 @@ fn event_of(kind: u16, field: u16) -> Event
 
 // The event of a word, unless a bit that must be 0 is set.
 #[tactic(auto, unfolding(crate::specs::Words::unpacked))]
-pub fn unpack(word: u16) -> Unpacked
+pub fn unpack(word: u16) -> Result<Event, NoEvent>
     ensures { result ≡ unpacked word }
 {
     let kind = word / Event::KIND;
     let field = word % Event::KIND;
     if field < room(kind) {
-        Unpacked::Accepted(event_of(kind, field))
+        Ok(event_of(kind, field))
     } else {
-        Unpacked::StrayBit
+        Err(NoEvent)
     }
 }
 
 // The word of a kind and its data.
-fn word(kind: u16, field: u16) -> Packed
+fn word(kind: u16, field: u16) -> u16
     requires { (kind < 8) × (field < KIND) }
-    ensures { result ≡ Packed.Word (kind * KIND + field) }
+    ensures { result ≡ kind * KIND + field }
 {
-    Packed::Word(kind * Event::KIND + field)
+    kind * Event::KIND + field
 }
 
 // The data of a RESET, most significant field first.
@@ -148,14 +128,14 @@ fn reset_data(straps: u8, levels: u8, short_pulse: bool) -> u16
 
 // The word of an event, unless its straps exceed 15.
 #[tactic(auto, unfolding(crate::specs::Words::packed, crate::specs::Words::word_of, crate::specs::Words::straps_of))]
-pub fn pack(event: Event) -> Packed
+pub fn pack(event: Event) -> Result<u16, NoWord>
     ensures { result ≡ packed event }
 {
-    match event {
+    Ok(match event {
         Event::Start => word(0, 0),
         Event::Stop => word(1, 0),
         Event::Byte(b) => word(2, b as u16),
-        Event::Take(ack) => { if ack { word(3, 1) } else { word(3, 0) } }
+        Event::Take(ack) => word(3, u16::from(ack)),
         Event::Pins(p) => word(4, p as u16),
         Event::Tick => word(5, 0),
         Event::Reset {
@@ -163,46 +143,40 @@ pub fn pack(event: Event) -> Packed
             levels,
             short_pulse,
         } => {
-            if straps <= straps::MOST {
-                word(6, reset_data(straps, levels, short_pulse))
-            } else {
-                Packed::StrapsTooLarge
+            if straps::MOST < straps {
+                return Err(NoWord);
             }
+            word(6, reset_data(straps, levels, short_pulse))
         }
         Event::Timeout => word(7, 0),
+    })
+}
+
+// The word of an event, 0 where it has none.
+pub fn packed_word(event: Event) -> u16
+    ensures { result ≡ pack_word (packed event) }
+{
+    pack(event).unwrap_or(0)
+}
+
+impl NoEvent {
+    const NUMBER: u8 = 2;
+
+    // The paper's number.
+    pub fn number(self) -> u8
+        ensures { result ≡ unpack_refusal (Err self) }
+    {
+        Self::NUMBER
     }
 }
 
-impl Unpacked {
-    // The paper's number for the answer.
-    pub fn refusal(self) -> u8
-        ensures { result ≡ unpack_refusal self }
-    {
-        match self {
-            Unpacked::Accepted(_) => 0,
-            Unpacked::StrayBit => 2,
-        }
-    }
-}
+impl NoWord {
+    const NUMBER: u8 = 6;
 
-impl Packed {
-    // The paper's number for the answer.
-    pub fn refusal(self) -> u8
-        ensures { result ≡ pack_refusal self }
+    // The paper's number.
+    pub fn number(self) -> u8
+        ensures { result ≡ pack_refusal (Err self) }
     {
-        match self {
-            Packed::Word(_) => 0,
-            Packed::StrapsTooLarge => 6,
-        }
-    }
-
-    // The word, 0 where the event was refused.
-    pub fn word(self) -> u16
-        ensures { result ≡ pack_word self }
-    {
-        match self {
-            Packed::Word(w) => w,
-            Packed::StrapsTooLarge => 0,
-        }
+        Self::NUMBER
     }
 }

@@ -10,7 +10,8 @@ use Rattle.machine.specs.Record.{bay_in, fresh_machine, fits}
 use Rattle.dock.specs.Record.{fresh_controller}
 use Rattle.image.specs.Save.{progress_bytes, saved}
 use Rattle.image.specs.Load.{first_over, progress_verdict, sized_verdict, verdict_on, state_in}
-use Rattle.image.specs.declared.Verdict.TheVariants.{Whole, WrongLength, UnknownVersion, NotAFlag, UnknownProgress, NotUsed}
+use Rattle.image.specs.declared.Flaw.TheVariants.{NotAFlag, NotUsed, UnknownProgress, UnknownVersion, WrongLength}
+use Rattle.std.specs.Prelude.{Err, Ok}
 
 -- The image with another byte at a place.
 abbrev pub damaged : ℕ → ℕ → List ℕ
@@ -21,19 +22,19 @@ abbrev in_second : List ℕ → List ℕ
 in_second bytes = set bytes 2 1
 
 pub record Told : Type 0 where
-  pub short : verdict_on (drop 1 (saved fresh_controller)) ≡ WrongLength
+  pub short : verdict_on (drop 1 (saved fresh_controller)) ≡ Err WrongLength
   -- The layout before this one.
-  pub version : verdict_on (damaged 0 3) ≡ UnknownVersion
-  pub first_flag : verdict_on (damaged 1 2) ≡ NotAFlag 1
-  pub last_flag : verdict_on (damaged 40 255) ≡ NotAFlag 40
-  pub progress : verdict_on (damaged 71 9) ≡ UnknownProgress
-  pub first_byte : verdict_on (damaged 72 1) ≡ NotUsed 72
-  pub second_byte : verdict_on (damaged 73 1) ≡ NotUsed 73
+  pub version : verdict_on (damaged 0 3) ≡ Err UnknownVersion
+  pub first_flag : verdict_on (damaged 1 2) ≡ Err (NotAFlag 1)
+  pub last_flag : verdict_on (damaged 40 255) ≡ Err (NotAFlag 40)
+  pub progress : verdict_on (damaged 71 9) ≡ Err UnknownProgress
+  pub first_byte : verdict_on (damaged 72 1) ≡ Err (NotUsed 72)
+  pub second_byte : verdict_on (damaged 73 1) ≡ Err (NotUsed 73)
   -- A number out of its range is no damage to the image: the state is loaded as it is, and is not fit.
-  pub phase : verdict_on (damaged 45 200) ≡ Whole
+  pub phase : verdict_on (damaged 45 200) ≡ Ok tt
   pub unfit : fits (state_in (damaged 45 200)).machine ≡ false
   -- Of the removal request count 4 is the last that fits.
-  pub button : verdict_on (damaged 55 5) ≡ Whole
+  pub button : verdict_on (damaged 55 5) ≡ Ok tt
   pub button_fit : fits (state_in (damaged 55 4)).machine ≡ true
   pub button_unfit : fits (state_in (damaged 55 5)).machine ≡ false
   -- Any byte fits as 42h.
@@ -46,8 +47,8 @@ pub record Told : Type 0 where
   pub form_factor_fit : fits (state_in (damaged 51 7)).machine ≡ true
   pub form_factor_unfit : fits (state_in (damaged 51 8)).machine ≡ false
   -- Written with the number has one byte, and reading with number and held byte two.
-  pub writing : verdict_on (set (damaged 71 7) 73 1) ≡ NotUsed 73
-  pub sending : verdict_on (set (damaged 71 8) 73 1) ≡ Whole
+  pub writing : verdict_on (set (damaged 71 7) 73 1) ≡ Err (NotUsed 73)
+  pub sending : verdict_on (set (damaged 71 8) 73 1) ≡ Ok tt
 
 pub damage_told : Told
 unfolding verdict_on sized_verdict progress_verdict first_over state_in saved progress_bytes fresh_controller fresh_machine empty_bay fresh bay_in fits second_fits bay_fit

@@ -49,9 +49,9 @@ module _ (xs : List ℕ) (i : ℕ) (p : Passed xs i) where
       here : first_over (drop i xs) ≡ 0
       here = rw (drop-cons xs i 0 h, e)
 
-  pub all_passed : length xs ≤ i → first_over xs ≡ i
+  pub all_passed : length xs ≤ i → first_over xs ≡ length xs
   unfolding first_over
-  all_passed h = p.1 ∙ ap (λ n. i + n) here ∙ omega arith
+  all_passed h = p.1 ∙ ap (λ n. i + n) here ∙ omega (arith, end)
     where
       end : i ≡ length xs
       end = omega (arith, h, p.0)

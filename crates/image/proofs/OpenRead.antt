@@ -7,9 +7,10 @@ use Rattle.kind.specs.declared.Kind.TheVariants.{First, Second}
 use Rattle.bay.proofs.Taut.{pick}
 use Rattle.bus.specs.Progress.{known_to, held_known, held_by}
 use Rattle.dock.specs.Held.{held_value, as_held, held_fit}
-use Rattle.dock.specs.declared.HeldByte.{HeldByte}
 use Rattle.image.specs.Load.{byte_at, progress_by, state_in}
 use Rattle.image.specs.Shape.{Octets}
+use Rattle.dock.specs.declared.Refusal.{Refusal}
+use Rattle.std.specs.Prelude.{Option, Result}
 
 of_progress : (k : Kind) (which a b : ℕ) → a < 256 → b < 256 → held_value (as_held (held_by k (progress_by which a b))) < 512
 unfolding held_by known_to held_known
@@ -31,5 +32,5 @@ of_progress k (suc (suc (suc (suc (suc (suc (suc (suc (suc n))))))))) a b s t = 
 pub held_byte_wide : (bytes : List ℕ) → Octets bytes → held_value (held_fit (state_in bytes)) < 512
 unfolding state_in held_fit
 held_byte_wide bytes o =
-    pick (λ (h : HeldByte). held_value h < 512) (state_in bytes).machine.started
+    pick (λ (h : Result (Option ℕ) Refusal). held_value h < 512) (state_in bytes).machine.started
     (λ _. of_progress (state_in bytes).machine.kind (byte_at bytes 71) _ _ (o 72) (o 73)) (λ _. omega arith)

@@ -23,10 +23,11 @@ use Rattle.dock.specs.declared.Controller.{Controller}
 use Rattle.machine.proofs.Bays.{each}
 use Rattle.image.specs.Layout.{LAYOUT, BYTES, FLAGS, NUMBERS, PROGRESS}
 use Rattle.image.specs.Save.{flag_byte, bay_flags, bay_numbers, second_flags, second_numbers, flags_of, numbers_of, progress_bytes, saved}
-use Rattle.image.specs.Load.{byte_at, flag_bytes, numbers_in, all_flags, first_over, whole, progress_verdict, sized_verdict, verdict_on, is_image, is_set, bay_by, second_by, machine_by, progress_by, state_in, load_of}
+use Rattle.image.specs.Load.{Verdict, byte_at, flag_bytes, numbers_in, all_flags, first_over, whole, progress_verdict, sized_verdict, verdict_on, is_image, is_set, bay_by, second_by, machine_by, progress_by, state_in, load_of}
 use Rattle.image.specs.Shape.{ShapedBay, ShapedSecond, Shaped, Octets}
-use Rattle.image.specs.declared.Verdict.TheVariants.{Whole, WrongLength, UnknownVersion, NotAFlag, NotUsed}
 use Rattle.image.proofs.Elements.{by_elements}
+use Rattle.image.specs.declared.Flaw.TheVariants.{NotAFlag, NotUsed, UnknownVersion, WrongLength}
+use Rattle.std.specs.Prelude.{Err, Ok}
 
 -- ---- a saved state, loaded
 
@@ -96,7 +97,7 @@ progress_back (Reading v) = refl
 progress_back (Writing r) = refl
 progress_back (Sending r v) = refl
 
-progress_whole : (p : Progress) → progress_verdict (byte_at (progress_bytes p) 0) (byte_at (progress_bytes p) 1) (byte_at (progress_bytes p) 2) ≡ Whole
+progress_whole : (p : Progress) → progress_verdict (byte_at (progress_bytes p) 0) (byte_at (progress_bytes p) 1) (byte_at (progress_bytes p) 2) ≡ Ok tt
 unfolding progress_bytes progress_verdict
 progress_whole Idle = refl
 progress_whole Opened = refl
@@ -124,7 +125,7 @@ pub saved_length : (s : Controller) → length (saved s) ≡ BYTES
 unfolding saved
 saved_length s = rw (three_long s.progress) refl
 
-saved_whole : (s : Controller) → verdict_on (saved s) ≡ Whole
+saved_whole : (s : Controller) → verdict_on (saved s) ≡ Ok tt
 unfolding verdict_on sized_verdict saved
 saved_whole s = rw (saved_length s, are_flags (flags_of s.machine), progress_whole s.progress)
 
@@ -142,9 +143,9 @@ state_back s h =
     held : Machine → Progress → Controller
     held m p = record { machine = m; progress = p }
 
-pub load_saved : (s : Controller) → Shaped s.machine → load_of (saved s) ≡ record { verdict = Whole; controller = s }
+pub load_saved : (s : Controller) → Shaped s.machine → load_of (saved s) ≡ Ok s
 unfolding load_of
-load_saved s h = rw (saved_whole s) (ap (λ t. record { verdict = Whole; controller = t }) (state_back s h))
+load_saved s h = rw (saved_whole s) (ap Ok (state_back s h))
 
 -- ---- bytes that are an image, loaded and saved
 
@@ -152,16 +153,16 @@ pub record Parts (bytes : List ℕ) : Type 0 where
   pub long : length bytes ≡ BYTES
   pub version : byte_at bytes 0 ≡ LAYOUT
   pub flags : all_flags (flag_bytes bytes) ≡ true
-  pub progress : progress_verdict (byte_at bytes PROGRESS) (byte_at bytes (PROGRESS + 1)) (byte_at bytes (PROGRESS + 2)) ≡ Whole
+  pub progress : progress_verdict (byte_at bytes PROGRESS) (byte_at bytes (PROGRESS + 1)) (byte_at bytes (PROGRESS + 2)) ≡ Ok tt
 
--- What a verdict of `Whole` says.
-pub parts : (bytes : List ℕ) → verdict_on bytes ≡ Whole → Parts bytes
+-- What a verdict without a flaw says.
+pub parts : (bytes : List ℕ) → verdict_on bytes ≡ Ok tt → Parts bytes
 unfolding verdict_on sized_verdict
 parts bytes e = go (eqb (length bytes) BYTES) refl (eqb (byte_at bytes 0) LAYOUT) refl (all_flags (flag_bytes bytes)) refl e
   where
     go :
         (l : Bool) → eqb (length bytes) BYTES ≡ l → (v : Bool) → eqb (byte_at bytes 0) LAYOUT ≡ v → (f : Bool) → all_flags (flag_bytes bytes) ≡ f
-        → cond l (cond v (cond f (progress_verdict (byte_at bytes PROGRESS) (byte_at bytes (PROGRESS + 1)) (byte_at bytes (PROGRESS + 2))) (NotAFlag (1 + first_over (flag_bytes bytes)))) UnknownVersion) WrongLength ≡ Whole
+        → cond l (cond v (cond f (progress_verdict (byte_at bytes PROGRESS) (byte_at bytes (PROGRESS + 1)) (byte_at bytes (PROGRESS + 2))) (Err (NotAFlag (1 + first_over (flag_bytes bytes))))) (Err UnknownVersion)) (Err WrongLength) ≡ Ok tt
         → Parts bytes
     go false l v p f q e = absurd (false≢true (ap whole e))
     go true l false p f q e = absurd (false≢true (ap whole e))
@@ -183,18 +184,18 @@ flags_back (b ∷ bs) h =
     let t = and_parts (leb b 1) (all_flags bs) h in
     rw (flag_back b t.0) (ap (λ l. b ∷ l) (flags_back bs t.1))
 
-first_zero : (a b i j : ℕ) → cond (eqb a 0) (cond (eqb b 0) Whole (NotUsed i)) (NotUsed j) ≡ Whole → (a ≡ 0) × (b ≡ 0)
+first_zero : (a b i j : ℕ) → ◌≡◌ {A = Verdict} (cond (eqb a 0) (cond (eqb b 0) (Ok tt) (Err (NotUsed i))) (Err (NotUsed j))) (Ok tt) → (a ≡ 0) × (b ≡ 0)
 first_zero a b i j = go (eqb a 0) refl (eqb b 0) refl
   where
-    go : (t : Bool) → eqb a 0 ≡ t → (u : Bool) → eqb b 0 ≡ u → cond t (cond u Whole (NotUsed i)) (NotUsed j) ≡ Whole → (a ≡ 0) × (b ≡ 0)
+    go : (t : Bool) → eqb a 0 ≡ t → (u : Bool) → eqb b 0 ≡ u → ◌≡◌ {A = Verdict} (cond t (cond u (Ok tt) (Err (NotUsed i))) (Err (NotUsed j))) (Ok tt) → (a ≡ 0) × (b ≡ 0)
     go true p true q h = (eqb-true a 0 p, eqb-true b 0 q)
     go true p false q h = absurd (false≢true (ap whole h))
     go false p u q h = absurd (false≢true (ap whole h))
 
-second_zero : (b i : ℕ) → cond (eqb b 0) Whole (NotUsed i) ≡ Whole → b ≡ 0
+second_zero : (b i : ℕ) → ◌≡◌ {A = Verdict} (cond (eqb b 0) (Ok tt) (Err (NotUsed i))) (Ok tt) → b ≡ 0
 second_zero b i h = (first_zero 0 b i 0 h).1
 
-progress_bytes_back : (which a b : ℕ) → progress_verdict which a b ≡ Whole → progress_bytes (progress_by which a b) ≡ which ∷ a ∷ b ∷ []
+progress_bytes_back : (which a b : ℕ) → progress_verdict which a b ≡ Ok tt → progress_bytes (progress_by which a b) ≡ which ∷ a ∷ b ∷ []
 unfolding progress_verdict progress_bytes
 progress_bytes_back zero a b h = let z = first_zero a b (PROGRESS + 2) (PROGRESS + 1) h in rw (z.0, z.1) refl
 progress_bytes_back (suc zero) a b h = let z = first_zero a b (PROGRESS + 2) (PROGRESS + 1) h in rw (z.0, z.1) refl
@@ -250,7 +251,7 @@ octets_take (suc n) (b ∷ bs) o (suc i) = octets_take n bs (λ j. o (suc j)) i
 numbers_octets : (bytes : List ℕ) → Octets bytes → Octets (numbers_in bytes)
 numbers_octets bytes o = octets_take (PROGRESS - NUMBERS) (drop NUMBERS bytes) (λ i. rw (get_or-drop NUMBERS bytes i 0) (o (NUMBERS + i)))
 
-pub saved_loaded : (bytes : List ℕ) → Octets bytes → verdict_on bytes ≡ Whole → saved (state_in bytes) ≡ bytes
+pub saved_loaded : (bytes : List ℕ) → Octets bytes → verdict_on bytes ≡ Ok tt → saved (state_in bytes) ≡ bytes
 unfolding saved state_in
 saved_loaded bytes o e =
     let t = parts bytes e in
@@ -271,7 +272,7 @@ saved_loaded bytes o e =
     progress = progress_by (byte_at bytes PROGRESS) (byte_at bytes (PROGRESS + 1)) (byte_at bytes (PROGRESS + 2))
 
 -- So a state has one image: two images of one state are the same bytes.
-pub one_image : (xs ys : List ℕ) → Octets xs → Octets ys → verdict_on xs ≡ Whole → verdict_on ys ≡ Whole → state_in xs ≡ state_in ys → xs ≡ ys
+pub one_image : (xs ys : List ℕ) → Octets xs → Octets ys → verdict_on xs ≡ Ok tt → verdict_on ys ≡ Ok tt → state_in xs ≡ state_in ys → xs ≡ ys
 one_image xs ys o w p q e = sym (saved_loaded xs o p) ∙ ap saved e ∙ saved_loaded ys w q
 
 -- The state of bytes has the shape of a record, whatever the bytes are.
@@ -292,6 +293,6 @@ pub record Image (bytes : List ℕ) : Type 0 where
   pub shaped : Shaped state.machine
   pub is : saved state ≡ bytes
 
-pub images_exactly : (bytes : List ℕ) → Octets bytes → (verdict_on bytes ≡ Whole) ↔ Image bytes
+pub images_exactly : (bytes : List ℕ) → Octets bytes → (verdict_on bytes ≡ Ok tt) ↔ Image bytes
 images_exactly bytes o =
     (λ e. record { state = state_in bytes; shaped = loaded_shaped bytes; is = saved_loaded bytes o e }, λ i. rw (← i.is) (saved_whole i.state))

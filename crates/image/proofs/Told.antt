@@ -10,10 +10,10 @@ use lib.Seq.{get_or-take, get_or-drop}
 use borrow.Author.Tests.{leb-true, leb-false, eqb-true}
 use Rattle.bay.proofs.Taut.{pick}
 use Rattle.image.specs.Layout.{LAYOUT, BYTES, FLAGS, NUMBERS, PROGRESS}
-use Rattle.image.specs.Load.{byte_at, flag_bytes, all_flags, first_over, progress_verdict, sized_verdict, verdict_on}
-use Rattle.image.specs.declared.Verdict.{Verdict}
-use Rattle.image.specs.declared.Verdict.TheVariants.{Whole, WrongLength, UnknownVersion, NotAFlag, UnknownProgress, NotUsed}
+use Rattle.image.specs.Load.{Verdict, byte_at, flag_bytes, all_flags, first_over, progress_verdict, sized_verdict, verdict_on}
 use Rattle.image.proofs.RoundTrip.{flag_bytes_long}
+use Rattle.image.specs.declared.Flaw.TheVariants.{NotAFlag, NotUsed, UnknownProgress, UnknownVersion, WrongLength}
+use Rattle.std.specs.Prelude.{Err, Ok}
 
 -- Of bytes that are not all flags: the first above 1.
 pub record First (bs : List ℕ) (i : ℕ) : Type 0 where
@@ -46,20 +46,20 @@ first_told (b ∷ bs) h = go (leb b 1) refl h (first_told bs)
 
 -- The place that a verdict names, and whether it is a flag's.
 place : Verdict → ℕ
-place Whole = 0
-place WrongLength = 0
-place UnknownVersion = 0
-place (NotAFlag i) = i
-place UnknownProgress = 0
-place (NotUsed i) = i
+place (Ok t) = 0
+place (Err WrongLength) = 0
+place (Err UnknownVersion) = 0
+place (Err (NotAFlag i)) = i
+place (Err UnknownProgress) = 0
+place (Err (NotUsed i)) = i
 
 names_flag : Verdict → Bool
-names_flag Whole = false
-names_flag WrongLength = false
-names_flag UnknownVersion = false
-names_flag (NotAFlag i) = true
-names_flag UnknownProgress = false
-names_flag (NotUsed i) = false
+names_flag (Ok t) = false
+names_flag (Err WrongLength) = false
+names_flag (Err UnknownVersion) = false
+names_flag (Err (NotAFlag i)) = true
+names_flag (Err UnknownProgress) = false
+names_flag (Err (NotUsed i)) = false
 
 no_flag : (which a b : ℕ) → names_flag (progress_verdict which a b) ≡ false
 unfolding progress_verdict names_flag
@@ -73,14 +73,14 @@ no_flag which a b =
 at_flags : (bytes : List ℕ) (i : ℕ) → i < NUMBERS - FLAGS → byte_at (flag_bytes bytes) i ≡ byte_at bytes (1 + i)
 at_flags bytes i h = get_or-take (NUMBERS - FLAGS) (drop 1 bytes) i 0 h ∙ get_or-drop 1 bytes i 0
 
-pub flag_told : (bytes : List ℕ) (i : ℕ) → verdict_on bytes ≡ NotAFlag i → 1 < byte_at bytes i
+pub flag_told : (bytes : List ℕ) (i : ℕ) → verdict_on bytes ≡ Err (NotAFlag i) → 1 < byte_at bytes i
 unfolding verdict_on sized_verdict place names_flag
 flag_told bytes i e =
     go (eqb (length bytes) BYTES) refl (eqb (byte_at bytes 0) LAYOUT) (all_flags (flag_bytes bytes)) refl e
   where
     go :
         (l : Bool) → eqb (length bytes) BYTES ≡ l → (v f : Bool) → all_flags (flag_bytes bytes) ≡ f
-        → cond l (cond v (cond f (progress_verdict (byte_at bytes PROGRESS) (byte_at bytes (PROGRESS + 1)) (byte_at bytes (PROGRESS + 2))) (NotAFlag (1 + first_over (flag_bytes bytes)))) UnknownVersion) WrongLength ≡ NotAFlag i
+        → cond l (cond v (cond f (progress_verdict (byte_at bytes PROGRESS) (byte_at bytes (PROGRESS + 1)) (byte_at bytes (PROGRESS + 2))) (Err (NotAFlag (1 + first_over (flag_bytes bytes))))) (Err UnknownVersion)) (Err WrongLength) ≡ Err (NotAFlag i)
         → 1 < byte_at bytes i
     go false l v f q e = absurd (false≢true (ap names_flag e))
     go true l false f q e = absurd (false≢true (ap names_flag e))

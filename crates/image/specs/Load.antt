@@ -1,5 +1,6 @@
 -- What bytes are: no image, or the image of a state, fit or not.
 use Rattle.std.specs.Prelude.{ℕ, ◌+◌, ◌-◌, Bool, true, false, cond, ◌&&◌, ◌||◌, List, [], ◌∷◌, map, eqb, leb, length, get_or, take, drop}
+use Rattle.std.specs.Prelude.{Option, Some, None, Result, Ok, Err}
 use Rattle.pairs.specs.Pairs.{wide}
 use Rattle.bus.specs.declared.Progress.{Progress}
 use Rattle.bus.specs.declared.Progress.TheVariants.{Idle, Opened, Addressed, Register, Data, Again, Reading, Writing, Sending}
@@ -7,12 +8,10 @@ use Rattle.kind.specs.Kind.{kind_by}
 use Rattle.second.specs.declared.Second.{Second}
 use Rattle.bay.specs.declared.Bay.{Bay}
 use Rattle.machine.specs.declared.Machine.{Machine}
-use Rattle.dock.specs.Record.{fresh_controller}
 use Rattle.dock.specs.declared.Controller.{Controller}
 use Rattle.image.specs.Layout.{LAYOUT, BYTES, FLAGS, NUMBERS, PROGRESS}
-use Rattle.image.specs.declared.Verdict.{Verdict}
-use Rattle.image.specs.declared.Verdict.TheVariants.{Whole, WrongLength, UnknownVersion, NotAFlag, UnknownProgress, NotUsed}
-use Rattle.image.specs.declared.Loaded.{Loaded}
+use Rattle.image.specs.declared.Flaw.TheVariants.{NotAFlag, NotUsed, UnknownProgress, UnknownVersion, WrongLength}
+use Rattle.image.specs.declared.Flaw.{Flaw}
 
 -- ---- the parts of an image
 
@@ -36,14 +35,18 @@ unfoldable pub first_over : List ℕ → ℕ
 first_over [] = 0
 first_over (b ∷ bs) = cond (leb b 1) (1 + first_over bs) 0
 
+-- What bytes are: an image, or no image and why.
+abbrev pub Verdict : Type 0
+Verdict = Result (Unit {0}) Flaw
+
 -- From a register byte on (3) a command in progress holds one byte; with a data byte (4), or sending (8), two; 8 is the last.
 unfoldable pub progress_verdict : ℕ → ℕ → ℕ → Verdict
 progress_verdict which first second =
     cond (leb which 8)
     (cond (leb 3 which || eqb first 0)
-    (cond (eqb which 4 || eqb which 8 || eqb second 0) Whole (NotUsed (PROGRESS + 2)))
-    (NotUsed (PROGRESS + 1)))
-    UnknownProgress
+    (cond (eqb which 4 || eqb which 8 || eqb second 0) (Ok tt) (Err (NotUsed (PROGRESS + 2))))
+    (Err (NotUsed (PROGRESS + 1))))
+    (Err UnknownProgress)
 
 -- Not an image: wrong length, unknown version, a flag above 1, an unknown progress, a byte that the progress doesn't use and that
 -- isn't 0.
@@ -52,19 +55,15 @@ sized_verdict bytes =
     cond (eqb (byte_at bytes 0) LAYOUT)
     (cond (all_flags (flag_bytes bytes))
     (progress_verdict (byte_at bytes PROGRESS) (byte_at bytes (PROGRESS + 1)) (byte_at bytes (PROGRESS + 2)))
-    (NotAFlag (FLAGS + first_over (flag_bytes bytes))))
-    UnknownVersion
+    (Err (NotAFlag (FLAGS + first_over (flag_bytes bytes)))))
+    (Err UnknownVersion)
 
 unfoldable pub verdict_on : List ℕ → Verdict
-verdict_on bytes = cond (eqb (length bytes) BYTES) (sized_verdict bytes) WrongLength
+verdict_on bytes = cond (eqb (length bytes) BYTES) (sized_verdict bytes) (Err WrongLength)
 
 abbrev pub whole : Verdict → Bool
-whole Whole = true
-whole WrongLength = false
-whole UnknownVersion = false
-whole (NotAFlag i) = false
-whole UnknownProgress = false
-whole (NotUsed i) = false
+whole (Ok t) = true
+whole (Err why) = false
 
 unfoldable pub is_image : List ℕ → Bool
 is_image bytes = whole (verdict_on bytes)
@@ -157,17 +156,14 @@ state_in bytes =
       progress = progress_by (byte_at bytes PROGRESS) (byte_at bytes (PROGRESS + 1)) (byte_at bytes (PROGRESS + 2));
     }
 
--- Beside a verdict that the bytes are no image stands a fresh state.
-abbrev pub state_by : Verdict → List ℕ → Controller
-state_by Whole bytes = state_in bytes
-state_by WrongLength bytes = fresh_controller
-state_by UnknownVersion bytes = fresh_controller
-state_by (NotAFlag i) bytes = fresh_controller
-state_by UnknownProgress bytes = fresh_controller
-state_by (NotUsed i) bytes = fresh_controller
+-- Bytes that are no image have no state.
+abbrev pub state_by : Verdict → List ℕ → Result Controller Flaw
+state_by (Ok t) bytes = Ok (state_in bytes)
+state_by (Err why) bytes = Err why
 
-abbrev pub load_sized : List ℕ → Loaded
-load_sized bytes = record { verdict = sized_verdict bytes; controller = state_by (sized_verdict bytes) bytes }
+unfoldable pub load_of : List ℕ → Result Controller Flaw
+load_of bytes = state_by (verdict_on bytes) bytes
 
-unfoldable pub load_of : List ℕ → Loaded
-load_of bytes = record { verdict = verdict_on bytes; controller = state_by (verdict_on bytes) bytes }
+-- The same, without why there is none.
+unfoldable pub state_of : List ℕ → Option Controller
+state_of bytes = cond (is_image bytes) (Some (state_in bytes)) None

@@ -4,8 +4,6 @@
 pub mod load;
 pub mod save;
 
-use dock::Controller;
-
 // ---- the layout: its version, then the flags, each a byte of 0 or 1, then the numbers, then the command in progress
 
 // The version rises whenever a byte, what it may hold or the length changes.
@@ -121,11 +119,9 @@ pub const PULSE: usize = 5;
 
 pub const WAIT: usize = 7;
 
-// What bytes are.
-#[derive(Clone, Copy)]
-pub enum Verdict {
-    // An image: of a state that may be unfit.
-    Whole,
+// Why bytes are no image.
+#[derive(Clone, Copy, PartialEq, Eq)]
+pub enum Flaw {
     WrongLength,
     UnknownVersion,
     // The byte at this place is above 1, and it is a flag.
@@ -133,11 +129,4 @@ pub enum Verdict {
     UnknownProgress,
     // The byte at this place isn't 0, and the command in progress doesn't use it.
     NotUsed(usize),
-}
-
-// The state is a fresh one where the bytes are no image.
-#[derive(Clone, Copy)]
-pub struct Loaded {
-    pub verdict: Verdict,
-    pub controller: Controller,
 }

@@ -1,9 +1,9 @@
 // Bytes read as a state.
 ghost use Rattle.std.specs.Prelude.{◌≡◌, map, length, ◌≤◌};
 ghost use Rattle.image.specs.Layout.{BYTES};
-ghost use Rattle.image.specs.Load.{is_set, bay_by, second_by, machine_in, progress_by, all_flags, first_over, progress_verdict, sized_verdict, load_sized, load_of};
+ghost use Rattle.image.specs.Load.{is_set, bay_by, second_by, machine_in, progress_by, all_flags, first_over, progress_verdict, sized_verdict, state_in, load_of, state_of};
 
-use crate::{Loaded, Verdict};
+use crate::{BYTES, Flaw};
 use bay::{Bay, Control};
 use bus::Progress;
 use dock::Controller;
@@ -130,58 +130,55 @@ fn all_flags(flags: &[u8]) -> bool
     ensures { result ≡ all_flags flags.now }
 {
     let mut good = true;
-    let mut i = 0;
-    while i < flags.len() {
-        good = good & (flags[i] <= 1);
-        i += 1;
+    for flag in flags {
+        good = good & (*flag <= 1);
     }
     good
 }
 
-// How many bytes come before the first above 1.
+// How many bytes come before the first above 1. A loop, since what `position` asks for is a reference in an Option, which has another layout on a
+// processor of 32 bits (docs/DESIGN-PASS.md).
 fn first_over(flags: &[u8]) -> usize
     ensures value { result ≡ first_over flags.now }
     ensures bounded { result ≤ length flags.now }
 {
-    let mut i = 0;
-    while i < flags.len() {
-        if 1 < flags[i] {
+    for (i, flag) in flags.iter().enumerate() {
+        if 1 < *flag {
             return i;
         }
-        i += 1;
     }
-    i
+    flags.len()
 }
 
 // From a register byte on a command holds one byte; with a data byte, or sending, two.
 #[tactic(auto, unfolding(crate::specs::Load::progress_verdict))]
-fn progress_verdict(which: u8, first: u8, second: u8) -> Verdict
+fn progress_verdict(which: u8, first: u8, second: u8) -> Result<(), Flaw>
     ensures { result ≡ progress_verdict which first second }
 {
-    if which <= crate::SENDING {
-        if (crate::REGISTER <= which) | (first == 0) {
-            if (which == crate::DATA) | (which == crate::SENDING) | (second == 0) {
-                return Verdict::Whole;
-            }
-            return Verdict::NotUsed(crate::SECOND);
-        }
-        return Verdict::NotUsed(crate::FIRST);
+    if crate::SENDING < which {
+        return Err(Flaw::UnknownProgress);
     }
-    Verdict::UnknownProgress
+    if (which < crate::REGISTER) & (first != 0) {
+        return Err(Flaw::NotUsed(crate::FIRST));
+    }
+    if (which != crate::DATA) & (which != crate::SENDING) & (second != 0) {
+        return Err(Flaw::NotUsed(crate::SECOND));
+    }
+    Ok(())
 }
 
-// The verdict on as many bytes as an image has.
+// Whether as many bytes as an image has are one.
 #[tactic(auto, unfolding(crate::specs::Load::sized_verdict))]
-fn sized_verdict(image: &[u8]) -> Verdict
+fn sized_verdict(image: &[u8]) -> Result<(), Flaw>
     requires { length image.now ≡ BYTES }
     ensures { result ≡ sized_verdict image.now }
 {
     if image[crate::VERSION] != crate::LAYOUT {
-        return Verdict::UnknownVersion;
+        return Err(Flaw::UnknownVersion);
     }
     if !all_flags(&image[crate::STARTED..crate::STRAPS]) {
         let before = first_over(&image[crate::STARTED..crate::STRAPS]);
-        return Verdict::NotAFlag(crate::STARTED + before);
+        return Err(Flaw::NotAFlag(crate::STARTED + before));
     }
     progress_verdict(
         image[crate::PROGRESS],
@@ -190,38 +187,44 @@ fn sized_verdict(image: &[u8]) -> Verdict
     )
 }
 
-#[tactic(auto, using(bus::proofs::Cases::found, crate::proofs::Whole::not_whole), unfolding(crate::specs::Load::state_in))]
-fn load_sized(image: &[u8]) -> Loaded
+// The state of as many bytes as an image has.
+#[tactic(auto, unfolding(crate::specs::Load::state_in))]
+fn state_in(image: &[u8]) -> Controller
     requires { length image.now ≡ BYTES }
-    ensures { result ≡ load_sized image.now }
+    ensures { result ≡ state_in image.now }
 {
-    let verdict = sized_verdict(image);
-    let Verdict::Whole = verdict else {
-        return Loaded {
-            verdict,
-            controller: Controller::fresh(),
-        };
-    };
-    let which = image[crate::PROGRESS];
-    Loaded {
-        verdict,
-        controller: Controller {
-            machine: machine_in(image),
-            progress: progress_from(which, image[crate::FIRST], image[crate::SECOND]),
-        },
+    Controller {
+        machine: machine_in(image),
+        progress: progress_from(
+            image[crate::PROGRESS],
+            image[crate::FIRST],
+            image[crate::SECOND],
+        ),
     }
 }
 
-// The state of an image, fit or not.
+// The state of an image, fit or not, or why the bytes are none. They stay a slice: a reference in an Option, as their array would be, has another
+// layout on a processor of 32 bits (docs/DESIGN-PASS.md).
 #[tactic(auto, unfolding(crate::specs::Load::load_of, crate::specs::Load::verdict_on))]
-pub fn load(image: &[u8]) -> Loaded
+pub fn load(image: &[u8]) -> Result<Controller, Flaw>
     ensures { result ≡ load_of image.now }
 {
-    if image.len() == crate::BYTES {
-        return load_sized(image);
+    if image.len() != BYTES {
+        return Err(Flaw::WrongLength);
     }
-    Loaded {
-        verdict: Verdict::WrongLength,
-        controller: Controller::fresh(),
+    sized_verdict(image)?;
+    Ok(state_in(image))
+}
+
+// The state of an image for who doesn't ask why bytes are none. A Result of `load` has a Flaw's place where the state's bytes are, and so the compiler
+// puts eight of them at a time together for a number: a tenth more instructions for each call on a state.
+#[tactic(auto, unfolding(crate::specs::Load::state_of, crate::specs::Load::is_image, crate::specs::Load::verdict_on))]
+pub fn state_of(image: &[u8]) -> Option<Controller>
+    ensures { result ≡ state_of image.now }
+{
+    if image.len() != BYTES {
+        return None;
     }
+    sized_verdict(image).ok()?;
+    Some(state_in(image))
 }

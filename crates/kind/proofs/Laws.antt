@@ -5,22 +5,22 @@ use mathlib.Core.Path.{◌≡◌, refl}
 use mathlib.Core.Logic.{◌≢◌}
 use mathlib.Core.Bool.{Bool, true, false}
 use borrow.Author.Tests.{ne_eqb}
-use Rattle.kind.specs.Kind.{is_second, kind_by, kind_number, numbered}
+use Rattle.kind.specs.Kind.{is_second, kind_by, kind_number, unknown_kind, numbered}
 use Rattle.kind.specs.declared.Kind.{Kind}
 use Rattle.kind.specs.declared.Kind.TheVariants.{First, Second}
-use Rattle.kind.specs.declared.Numbered.TheVariants.{Names, Neither}
+use Rattle.std.specs.Prelude.{Ok, Err}
 
 pub record Numbers : Type 0 where
-  pub first : numbered 1 ≡ Names First
-  pub second : numbered 2 ≡ Names Second
-  pub neither : (n : ℕ) → n ≢ 1 → n ≢ 2 → numbered n ≡ Neither
-  pub own : (k : Kind) → numbered (kind_number k) ≡ Names k
+  pub first : numbered 1 ≡ Ok First
+  pub second : numbered 2 ≡ Ok Second
+  pub neither : (n : ℕ) → n ≢ 1 → n ≢ 2 → numbered n ≡ Err unknown_kind
+  pub own : (k : Kind) → numbered (kind_number k) ≡ Ok k
 
 pub numbers : Numbers
 unfolding numbered
 numbers = record { first = refl; second = refl; neither = λ n p q. rw (ne_eqb n 1 p, ne_eqb n 2 q); own = own }
   where
-    own : (k : Kind) → numbered (kind_number k) ≡ Names k
+    own : (k : Kind) → numbered (kind_number k) ≡ Ok k
     own First = refl
     own Second = refl
 

@@ -1,9 +1,8 @@
 -- The two kinds of controller, and the numbers that name them (document 02, request 2; document 03, "Naming the kind").
-use Rattle.std.specs.Prelude.{ℕ, Bool, true, false, cond, eqb}
+use Rattle.std.specs.Prelude.{ℕ, Bool, true, false, cond, eqb, Result, Ok, Err}
 use Rattle.kind.specs.declared.Kind.{Kind}
+use Rattle.kind.specs.declared.UnknownKind.{UnknownKind}
 use Rattle.kind.specs.declared.Kind.TheVariants.{First, Second}
-use Rattle.kind.specs.declared.Numbered.{Numbered}
-use Rattle.kind.specs.declared.Numbered.TheVariants.{Names, Neither}
 
 abbrev pub is_second : Kind → Bool
 is_second First = false
@@ -17,6 +16,9 @@ abbrev pub kind_number : Kind → ℕ
 kind_number First = 1
 kind_number Second = 2
 
+abbrev pub unknown_kind : UnknownKind
+unknown_kind = record {}
+
 -- Any other number is neither.
-unfoldable pub numbered : ℕ → Numbered
-numbered n = cond (eqb n 1) (Names First) (cond (eqb n 2) (Names Second) Neither)
+unfoldable pub numbered : ℕ → Result Kind UnknownKind
+numbered n = cond (eqb n 1) (Ok First) (cond (eqb n 2) (Ok Second) (Err unknown_kind))

@@ -5,27 +5,21 @@
 ghost use Rattle.std.specs.Prelude.{◌≡◌};
 ghost use Rattle.kind.specs.Kind.{is_second, kind_by, kind_number, numbered};
 
-#[derive(Clone, Copy)]
+#[derive(Clone, Copy, PartialEq, Eq)]
 pub enum Kind {
     First,
     Second,
 }
 
-// What a number names.
-#[derive(Clone, Copy)]
-pub enum Numbered {
-    Names(Kind),
-    Neither,
-}
+// A number that names neither kind.
+#[derive(Clone, Copy, PartialEq, Eq)]
+pub struct UnknownKind;
 
 impl Kind {
     pub fn is_second(self) -> bool
         ensures { result ≡ is_second self }
     {
-        match self {
-            Kind::First => false,
-            Kind::Second => true,
-        }
+        self == Kind::Second
     }
 
     // The second kind, or else the first.
@@ -43,15 +37,19 @@ impl Kind {
             Kind::Second => 2,
         }
     }
+}
+
+impl TryFrom<u8> for Kind {
+    type Error = UnknownKind;
+
+    ghost try_from_gives = { λ number answer. answer ≡ numbered number };
 
     #[tactic(auto, unfolding(crate::specs::Kind::numbered))]
-    pub fn numbered(number: u8) -> Numbered
-        ensures { result ≡ numbered number }
-    {
+    fn try_from(number: u8) -> Result<Kind, UnknownKind> {
         match number {
-            1 => Numbered::Names(Kind::First),
-            2 => Numbered::Names(Kind::Second),
-            _ => Numbered::Neither,
+            1 => Ok(Kind::First),
+            2 => Ok(Kind::Second),
+            _ => Err(UnknownKind),
         }
     }
 }

@@ -1,4 +1,5 @@
-pub mod Written
-pub mod Telling
-pub mod Sign
+pub mod Cut
 pub mod Determined
+pub mod Known
+pub mod Running
+pub mod Telling

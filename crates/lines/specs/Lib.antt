@@ -1,3 +1,4 @@
 pub mod Line
 pub mod Reads
+pub mod Telling
 pub mod Text

@@ -1,8 +1,7 @@
 -- A line of the trace (document 01, "Bench examples"): word, refusal, reply, byte, outputs (word, byte and outputs in upper-case hex
 -- of 4, 2 and 3 digits, the others decimal; refusals and replies have one digit). Characters are their ASCII numbers.
 use Rattle.std.specs.Prelude.{ℕ, ◌/◌, List, [], ◌∷◌}
-use Rattle.dock.specs.Answers.{refusal_of, reply_of, byte_of, outputs_of}
-use Rattle.dock.specs.declared.Answer.{Answer}
+use Rattle.dock.specs.Answers.{refusal_of, reply_of, byte_of, outputs_of, Answer}
 use Rattle.hexes.specs.Digit.{digit_for}
 
 abbrev space : ℕ

@@ -1,5 +1,5 @@
--- Texts: the characters of one, by their ASCII numbers, and a buffer that holds one.
-use Rattle.std.specs.Prelude.{ℕ, zero, suc, List, [], ◌∷◌, ◌++◌, length, drop}
+-- Texts: the characters of one, by their ASCII numbers, and how many a page has room for.
+use Rattle.std.specs.Prelude.{ℕ, zero, suc, List, [], ◌∷◌}
 use Prim.Native.Char.{code}
 use Prim.Native.String.{String, len, char_at}
 
@@ -11,6 +11,5 @@ characters_from t at (suc n) = code (char_at t at) ∷ characters_from t (suc at
 abbrev pub characters : String → List ℕ
 characters t = characters_from t 0 (len t)
 
--- A buffer with a text at its start; the bytes past it are unchanged.
-unfoldable pub written : List ℕ → List ℕ → List ℕ
-written text buffer = text ++ drop (length text) buffer
+abbrev pub PAGE : ℕ
+PAGE = 75776

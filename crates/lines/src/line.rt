@@ -3,27 +3,33 @@
 ghost use Rattle.std.specs.Prelude.{◌≡◌};
 ghost use Rattle.lines.specs.Line.{line_of};
 
-use dock::Answer;
+use dock::{Answer, Numbers};
 use hexes::digit;
 
 // The bytes of a line, with its end.
 pub const LINE: usize = 16;
 
+// Digit by digit, as `line_of` has them: a format's text is no array.
 #[tactic(auto, unfolding(crate::specs::Line::line_of))]
-pub fn line(word: u16, answer: Answer) -> [u8; 16]
+pub fn line(word: u16, answer: Answer) -> [u8; LINE]
     ensures { result ≡ line_of word answer }
 {
-    let byte = answer.byte() as u16;
-    let outputs = answer.outputs();
+    let Numbers {
+        refusal,
+        reply,
+        byte,
+        outputs,
+    } = Numbers::from(answer);
+    let byte = byte as u16;
     [
         digit(word / 4096),
         digit(word / 256),
         digit(word / 16),
         digit(word),
         b' ',
-        digit(answer.refusal() as u16),
+        digit(refusal as u16),
         b' ',
-        digit(answer.reply() as u16),
+        digit(reply as u16),
         b' ',
         digit(byte / 16),
         digit(byte),

@@ -1,13 +1,11 @@
--- A copy, one byte further. Assumes nothing.
-use Prim.Native.Nat.{ℕ, ◌+◌, ◌<◌}
-use native.Mathlib.Numerals.{add-one}
-use mathlib.Core.Path.{◌≡◌, ap, sym, ◌∙◌}
-use mathlib.Core.List.{List, [], ◌∷◌, ◌++◌}
-use lib.ListN.{length, get_or, take, set}
-use lib.Seq.{take-suc, take-suc-set}
+-- Bytes copied over as many are theirs. Assumes nothing.
+use Prim.Native.Nat.{ℕ}
+use native.Mathlib.Omega.{arith}
+use mathlib.Core.Path.{◌≡◌}
+use mathlib.Core.List.{List, ◌++◌, append-nil}
+use lib.ListN.{length, take, drop, drop_of_length-le}
+use lib.Seq.{take-length}
 
-pub one_more :
-    (from to : List ℕ) (i : ℕ) → i < length from → i < length to → take i to ≡ take i from
-    → take (i + 1) (set to i (get_or from i 0)) ≡ take (i + 1) from
-one_more from to i hf ht e =
-    rw (add-one i) (take-suc-set to i (get_or from i 0) ht ∙ ap (λ l. l ++ (get_or from i 0 ∷ [])) e ∙ sym (take-suc from i 0 hf))
+pub copied : (image held : List ℕ) → length held ≡ length image → take (length image) image ++ drop (length image) held ≡ image
+copied image held e =
+    rw (take-length image, drop_of_length-le held {i = length image} (omega (arith, e))) (append-nil image)

@@ -8,10 +8,10 @@ use Rattle.bay.proofs.Taut.{pick}
 use Rattle.machine.specs.Record.{fits}
 use Rattle.dock.specs.declared.Controller.{Controller}
 use Rattle.batch.specs.Batch.{outcome_of}
-use Rattle.batch.specs.Outcome.{outcome_count}
-use Rattle.batch.specs.declared.Outcome.{Outcome}
+use Rattle.calls.specs.Numbers.{outcome_count}
 use Rattle.image.specs.Load.{is_image, state_in}
 use Rattle.link.specs.Held.{outcome_in}
+use Rattle.calls.specs.Numbers.{Outcome}
 
 count_most : (s : Controller) (words bytes : ℕ) → outcome_count (outcome_of s words bytes) ≤ 16384
 unfolding outcome_of

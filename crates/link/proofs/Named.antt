@@ -5,19 +5,13 @@ use native.Mathlib.Omega.{arith}
 use mathlib.Core.Path.{◌≡◌, refl, ap, sym, ◌∙◌}
 use mathlib.Core.Logic.{◌≢◌}
 use mathlib.Core.Bool.{Bool, true, false, cond, ◌&&◌, and-eq-true_iff}
-use mathlib.Core.List.{List, [], ◌∷◌}
-use lib.Dec.{T}
-use denote.Enum.Declared.{tag_of}
-use Rattle.bus.proofs.Cases.{among}
+use mathlib.Core.List.{List}
 use Rattle.kind.specs.Kind.{kind_number}
 use Rattle.kind.specs.declared.Kind.{Kind}
 use Rattle.kind.proofs.Laws.{numbers}
 use Rattle.machine.specs.Record.{fits}
-use Rattle.dock.specs.Name.{naming_refusal, named_to, name_of}
-use Rattle.dock.specs.declared.Naming.{Naming}
-use Rattle.dock.specs.declared.Naming.TheVariants.{Stored, Unfit, NoSuchKind}
+use Rattle.dock.specs.Name.{naming_number, naming_refusal, named_to, name_of}
 use Rattle.dock.specs.declared.Renamed.{Renamed}
-use Rattle.dock.specs.contracts.Naming.{the_type}
 use Rattle.dock.proofs.Named.{RefusedBy, given_1, named_exactly}
 use Rattle.image.specs.Save.{saved}
 use Rattle.image.specs.Load.{is_image, state_in}
@@ -26,13 +20,16 @@ use Rattle.image.proofs.Whole.{image_whole}
 use Rattle.image.proofs.RoundTrip.{saved_loaded}
 use Rattle.link.specs.Held.{naming_in, named_in}
 use Rattle.link.proofs.Refused.{usable}
+use Rattle.dock.specs.declared.NamingRefusal.TheVariants.{NoSuchKind, Unfit}
+use Rattle.dock.specs.declared.NamingRefusal.{NamingRefusal}
+use Rattle.std.specs.Prelude.{Err, Result}
 
 module _ (bytes : List ℕ) (n : ℕ) where
   -- What a call answers and leaves.
-  abbrev pub Renames : Naming → List ℕ → Type 0
+  abbrev pub Renames : Result (Unit {0}) NamingRefusal → List ℕ → Type 0
   Renames r left = (r ≡ naming_in bytes n) × (left ≡ named_in bytes n)
 
-  pub names_nothing : is_image bytes ≡ false → Renames Unfit bytes
+  pub names_nothing : is_image bytes ≡ false → Renames (Err Unfit) bytes
   unfolding naming_in named_in
   names_nothing h = rw h (refl, refl)
 
@@ -42,16 +39,15 @@ module _ (bytes : List ℕ) (n : ℕ) where
     names = rw (h, e) (refl, refl)
 
     -- One that is refused leaves the bytes, since they are the image of the state.
-    pub names_refused : Octets bytes → T (among (tag_of the_type r.naming) (1 ∷ 2 ∷ [])) → Renames r.naming bytes
-    names_refused o t = (names.0, back ∙ names.1)
+    pub names_refused : Octets bytes → (x : NamingRefusal) → r.naming ≡ Err x → Renames (Err x) bytes
+    names_refused o x t = (sym t ∙ names.0, back ∙ names.1)
       where
-        refused : (m : Naming) → T (among (tag_of the_type m) (1 ∷ 2 ∷ [])) → naming_refusal m ≢ 0
-        refused Stored h = absurd h
-        refused Unfit h = λ z. omega (arith, z)
-        refused NoSuchKind h = λ z. omega (arith, z)
+        refused : (m : NamingRefusal) → naming_number m ≢ 0
+        refused Unfit z = omega (arith, z)
+        refused NoSuchKind z = omega (arith, z)
 
         same : r.controller ≡ state_in bytes
-        same = ap (λ (x : Renamed). x.controller) e ∙ (named_exactly (state_in bytes) n).unchanged (rw (ap (λ (x : Renamed). x.naming) e) at (refused r.naming t))
+        same = ap (λ (x : Renamed). x.controller) e ∙ (named_exactly (state_in bytes) n).unchanged (rw (← ap (λ (y : Renamed). y.naming) e, t) (refused x))
 
         back : bytes ≡ saved r.controller
         back = sym (saved_loaded bytes o (image_whole bytes h)) ∙ ap saved (sym same)
@@ -61,7 +57,7 @@ module _ (bytes : List ℕ) (n : ℕ) where
   name_untouched o = go (is_image bytes) refl
     where
       go :
-          (b : Bool) → is_image bytes ≡ b → naming_refusal (cond b (name_of (state_in bytes) n).naming Unfit) ≢ 0
+          (b : Bool) → is_image bytes ≡ b → naming_refusal (cond b (name_of (state_in bytes) n).naming (Err Unfit)) ≢ 0
           → cond b (saved (name_of (state_in bytes) n).controller) bytes ≡ bytes
       go true i z = ap saved ((named_exactly (state_in bytes) n).unchanged z) ∙ saved_loaded bytes o (image_whole bytes i)
       go false i z = refl
@@ -71,7 +67,7 @@ module _ (bytes : List ℕ) (n : ℕ) where
   unfolding naming_in
   name_exactly = go (is_image bytes)
     where
-      go : (i : Bool) → RefusedBy n (i && fits (state_in bytes).machine) (naming_refusal (cond i (name_of (state_in bytes) n).naming Unfit))
+      go : (i : Bool) → RefusedBy n (i && fits (state_in bytes).machine) (naming_refusal (cond i (name_of (state_in bytes) n).naming (Err Unfit)))
       go true = (named_exactly (state_in bytes) n).refusal
       go false = given_1 n
 

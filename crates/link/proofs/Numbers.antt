@@ -11,11 +11,10 @@ use borrow.Author.Tests.{lt-ltb, le-ltb, ltb-true, eqb-true, lt-leb, le-leb, ne_
 use Rattle.event.specs.Words.{bits_of, unpacked, straps_of, StrayBitSet}
 use Rattle.event.specs.declared.Event.{Event}
 use Rattle.event.specs.declared.Event.TheVariants.{Start, Stop, Byte, Take, Pins, Tick, Reset, Timeout}
-use Rattle.event.specs.declared.Unpacked.TheVariants.{Accepted}
 use Rattle.event.proofs.Rows as rows
 use Rattle.event.proofs.Theorems.{unpack_then_pack, by_kind, words_refused, events_refused}
 use Rattle.link.specs.Events.{numbers_of, unpacked_as, refusal_in, first_in, second_in, meant_by, packed_as}
-use Rattle.link.specs.declared.Meant.TheVariants.{This}
+use Rattle.std.specs.Prelude.{Ok, Some}
 
 -- ---- what is converted
 
@@ -39,7 +38,7 @@ pub record Table : Type 0 where
 
 module _ (w : ℕ) (e : Event) (kind first second : ℕ) where
   converts :
-      w < 2 ^ 16 → unpacked w ≡ Accepted e → numbers_of e ≡ first / 256 * 0x1000000 + first % 256 * 256 + second → meant_by kind first second ≡ This e
+      w < 2 ^ 16 → unpacked w ≡ Ok e → numbers_of e ≡ first / 256 * 0x1000000 + first % 256 * 256 + second → meant_by kind first second ≡ Some e
       → Converts w kind first second
   unfolding unpacked_as packed_as
   converts l u n m = (rw u n, rw (m, unpack_then_pack w l e u) (omega arith))
@@ -48,19 +47,19 @@ module _ (w : ℕ) (e : Event) (kind first second : ℕ) where
 low_byte : (b : ℕ) → b < 256 → b % 256 ≡ b
 low_byte b l = omega arith
 
-byte_meant : (b : ℕ) → b < 256 → meant_by 2 b 0 ≡ This (Byte b)
+byte_meant : (b : ℕ) → b < 256 → meant_by 2 b 0 ≡ Some (Byte b)
 unfolding meant_by
 byte_meant b l = rw (le-leb b 255 (omega arith), low_byte b l)
 
-pins_meant : (levels : ℕ) → levels < 256 → meant_by 4 levels 0 ≡ This (Pins levels)
+pins_meant : (levels : ℕ) → levels < 256 → meant_by 4 levels 0 ≡ Some (Pins levels)
 unfolding meant_by
 pins_meant levels l = rw (le-leb levels 255 (omega arith), low_byte levels l)
 
-reset_meant : (straps levels : ℕ) → straps < 16 → meant_by 6 straps levels ≡ This (Reset straps levels false)
+reset_meant : (straps levels : ℕ) → straps < 16 → meant_by 6 straps levels ≡ Some (Reset straps levels false)
 unfolding meant_by
 reset_meant s l h = rw (lt-ltb s 512 (omega arith), le-leb s 255 (omega arith), low_byte s (omega arith))
 
-reset_short_meant : (straps levels : ℕ) → straps < 16 → meant_by 6 (256 + straps) levels ≡ This (Reset straps levels true)
+reset_short_meant : (straps levels : ℕ) → straps < 16 → meant_by 6 (256 + straps) levels ≡ Some (Reset straps levels true)
 unfolding meant_by
 reset_short_meant s l h =
     let low : (256 + s) % 256 ≡ s = omega arith in

@@ -4,7 +4,8 @@ use Prim.Native.Nat.{ℕ, zero, suc, ◌+◌, ◌*◌, ◌<◌, ◌≤◌}
 use native.Mathlib.Omega.{arith}
 use native.Mathlib.Numerals.{add-one}
 use mathlib.Core.Path.{◌≡◌, refl, ap, sym, ◌∙◌}
-use mathlib.Core.Bool.{Bool, true, false, ◌&&◌, and_assoc, and-eq-true_iff}
+use mathlib.Core.Bool.{Bool, true, false, cond, ◌&&◌, and_assoc, and-eq-true_iff, false≢true}
+use Rattle.std.specs.Prelude.{Option, Some, None}
 use mathlib.Core.List.{List, [], ◌∷◌, ◌++◌, map, append_assoc}
 use lib.ListN.{length, get_or, take, drop, length-append, length-drop}
 use lib.Seq.{get_or-drop, take-suc-set, take_at, drop_at, drop-drop, length-take-le}
@@ -18,11 +19,10 @@ use Rattle.chassis.specs.declared.Round.{Round}
 use Rattle.chassis.specs.declared.Seen.{Seen}
 use Rattle.chassis.proofs.Loops.{seen_none, seen_next, round_none, records_length, record_waits, records_next, round_next}
 use Rattle.image.specs.Save.{saved}
-use Rattle.image.specs.Load.{whole, is_image, state_in, load_of}
-use Rattle.image.specs.declared.Loaded.{Loaded}
+use Rattle.image.specs.Load.{is_image, state_in}
 use Rattle.image.specs.Shape.{Octets}
 use Rattle.image.proofs.RoundTrip.{saved_length}
-use Rattle.link.specs.Lists.{images_of, parts_of, states_of, all_images, record_in, loaded_in, Looks, round_in, passed_in}
+use Rattle.link.specs.Lists.{images_of, parts_of, states_of, all_images, seen_in, round_in, passed_in}
 
 -- ---- parts
 
@@ -84,32 +84,65 @@ image_at (suc count) (suc i) bytes l h =
 
 -- ---- looking
 
-pub record Looking (bytes : List ℕ) (count i : ℕ) (seen : Seen) (all : Bool) : Type 0 where
+abbrev states : List ℕ → ℕ → List Controller
+states bytes places = states_of (parts_of places bytes)
+
+-- The first i of the parts are images, and have been looked at.
+pub record Looking (bytes : List ℕ) (count i : ℕ) (seen : Seen) : Type 0 where
   pub within : i ≤ count
-  pub so_far : seen ≡ seen_to begun i (loaded_in bytes count)
-  pub images : all ≡ all_images (parts_of i bytes)
+  pub so_far : seen ≡ seen_to begun i (states bytes count)
+  pub images : all_images (parts_of i bytes) ≡ true
 
-pub none_seen : (bytes : List ℕ) (count : ℕ) (seen : Seen) → seen ≡ begun → Looking bytes count 0 seen true
+pub none_seen : (bytes : List ℕ) (count : ℕ) (seen : Seen) → seen ≡ begun → Looking bytes count 0 seen
 unfolding parts_of all_images
-none_seen bytes count seen e = record { within = omega arith; so_far = e ∙ sym (seen_none begun (loaded_in bytes count)); images = refl }
+none_seen bytes count seen e = record { within = omega arith; so_far = e ∙ sym (seen_none begun (states bytes count)); images = refl }
 
-module _ (bytes : List ℕ) (count i : ℕ) (seen : Seen) (all : Bool) (h : Looking bytes count i seen all) where
+module _ (bytes : List ℕ) (count i : ℕ) (seen : Seen) (h : Looking bytes count i seen) where
   pub looks_on :
-      i < count → (l : Loaded) → l ≡ load_of (part_at i bytes) → (s : Seen) → s ≡ seen_with seen l.controller
-      → Looking bytes count (i + 1) s (all && whole l.verdict)
-  unfolding load_of is_image
-  looks_on here l e s q =
-      let c : l.controller ≡ get_or (loaded_in bytes count) i fresh_controller = ap (λ (x : Loaded). x.controller) e ∙ sym (made_at record_in count i bytes fresh_controller here) in
+      i < count → is_image (part_at i bytes) ≡ true → (c : Controller) → c ≡ state_in (part_at i bytes) → (s : Seen) → s ≡ seen_with seen c
+      → Looking bytes count (i + 1) s
+  looks_on here is c e s q =
+      let at_place : c ≡ get_or (states bytes count) i fresh_controller = e ∙ sym (made_at state_in count i bytes fresh_controller here) in
       record {
         within = omega arith;
-        so_far = q ∙ rw (h.so_far, c) (seen_next begun i (loaded_in bytes count) fresh_controller (rw (made_length record_in count bytes) here));
-        images = rw (parts_next i bytes, images_next (parts_of i bytes) (part_at i bytes), ← h.images, e);
+        so_far = q ∙ rw (h.so_far, at_place) (seen_next begun i (states bytes count) fresh_controller (rw (made_length state_in count bytes) here));
+        images = rw (parts_next i bytes, images_next (parts_of i bytes) (part_at i bytes), h.images, is) refl;
       }
 
-  pub all_seen : count ≤ i → Looks bytes count (record { seen = seen; whole = all })
+  -- A part that is no image ends it.
+  pub looks_no_further : i < count → is_image (part_at i bytes) ≡ false → None ≡ seen_in bytes count
+  unfolding seen_in
+  looks_no_further here other = go (all_images (parts_of count bytes)) refl
+    where
+      go : (b : Bool) → all_images (parts_of count bytes) ≡ b → None ≡ cond b (Some (seen_to begun count (states bytes count))) None
+      go true all = absurd (false≢true (sym other ∙ image_at count i bytes here all))
+      go false all = refl
+
+  pub all_seen : count ≤ i → Some seen ≡ seen_in bytes count
+  unfolding seen_in
   all_seen end =
       let e : i ≡ count = omega (arith, h.within) in
-      record { seen = rw e at h.so_far; whole = rw e at h.images }
+      rw (rw e at h.images, rw e at h.so_far) refl
+
+-- What a list has been seen to be.
+pub seen_where_images : (bytes : List ℕ) (count : ℕ) (s : Seen) → seen_in bytes count ≡ Some s → (all_images (parts_of count bytes) ≡ true) × (s ≡ seen_to begun count (states bytes count))
+unfolding seen_in
+seen_where_images bytes count s = go (all_images (parts_of count bytes))
+  where
+    nothing_seen : ◌≡◌ {A = Option Seen} None (Some s) → ⊥
+    nothing_seen e = let z : ◌≡◌ {A = ℕ} 0 1 = cc in omega arith
+
+    go : (b : Bool) → cond b (Some (seen_to begun count (states bytes count))) None ≡ Some s → (b ≡ true) × (s ≡ seen_to begun count (states bytes count))
+    go true e = (refl, cc)
+    go false e = absurd (nothing_seen e)
+
+pub unseen_where_none : (bytes : List ℕ) (count : ℕ) (r : Option Seen) → r ≡ seen_in bytes count → ((s : Seen) → r ≡ Some s → ⊥) → all_images (parts_of count bytes) ≡ false
+unfolding seen_in
+unseen_where_none bytes count r = go (all_images (parts_of count bytes))
+  where
+    go : (b : Bool) → r ≡ cond b (Some (seen_to begun count (states bytes count))) None → ((s : Seen) → r ≡ Some s → ⊥) → b ≡ false
+    go true e n = absurd (n (seen_to begun count (states bytes count)) e)
+    go false e n = refl
 
 -- ---- writing
 
@@ -122,9 +155,6 @@ pub images_append : (xs ys : List Controller) → images_of (xs ++ ys) ≡ image
 unfolding images_of
 images_append [] ys = refl
 images_append (x ∷ xs) ys = ap (λ (l : List ℕ). saved x ++ l) (images_append xs ys) ∙ sym (append_assoc (saved x) (images_of xs) (images_of ys))
-
-abbrev states : List ℕ → ℕ → List Controller
-states bytes places = states_of (parts_of places bytes)
 
 -- The first i of the parts are passed and written, and the rest is as it came.
 pub record Passing (before : List ℕ) (places : ℕ) (r : Errand) (i : ℕ) (bytes : List ℕ) (y : Round) : Type 0 where

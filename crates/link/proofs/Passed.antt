@@ -6,8 +6,6 @@ use mathlib.Core.Path.{◌≡◌, sym, ◌∙◌}
 use mathlib.Core.Bool.{true}
 use mathlib.Core.List.{List}
 use Rattle.dock.specs.Step.{step_of}
-use Rattle.dock.specs.declared.Answer.{Answer}
-use Rattle.dock.specs.declared.Answer.TheVariants.{Unfit}
 use Rattle.bay.proofs.Taut.{pick}
 use Rattle.batch.specs.Decode.{number_of, answer_in, decode}
 use Rattle.batch.specs.Record.{record_of}
@@ -22,13 +20,16 @@ use Rattle.image.proofs.Whole.{image_whole}
 use Rattle.link.specs.Answer.{value_in, told_as}
 use Rattle.link.specs.Held.{answer_in as answer_of, stepped_in, outputs_in}
 use Rattle.link.proofs.SixtyFour.{shown_small}
+use Rattle.dock.specs.Answers.{Answer}
+use Rattle.dock.specs.declared.Refusal.TheVariants.{Unfit}
+use Rattle.std.specs.Prelude.{Err}
 
 -- Of any bytes, the 32 bits of a step tell its answer.
 pub step_decodes : (bytes : List ℕ) → Octets bytes → (w : ℕ) → answer_in (number_of (record_of (answer_of bytes w))) ≡ answer_of bytes w
 unfolding answer_of decode
 step_decodes bytes octets w =
     pick (λ (a : Answer). answer_in (number_of (record_of a)) ≡ a) (is_image bytes) (λ _. call_decodes (state_in bytes) w (held_byte_wide bytes octets))
-    (λ _. record_decodes Unfit (omega arith) (omega arith))
+    (λ _. record_decodes (Err Unfit) (omega arith) (omega arith))
 
 module _ (part : List ℕ) (octets : Octets part) (image : is_image part ≡ true) where
   pub step_tells : (w : ℕ) → answer_in (number_of (record_of (answer_of part w))) ≡ (step_of (state_in part) w).answer

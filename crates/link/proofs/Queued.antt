@@ -9,15 +9,17 @@ use mathlib.Core.List.{List, [], ◌∷◌, ◌++◌}
 use lib.Dec.{eqb}
 use lib.ListN.{length, get_or, get_or-eq_default}
 use borrow.Author.Tests.{eqb-true, eqb-false, eq-eqb, ne_eqb}
+use Rattle.std.specs.Prelude.{Result}
 use Rattle.queue.specs.Record.{empty_queue, fits, waiting}
 use Rattle.queue.specs.Numbers.{outcome_refusal, outcome_word}
+use Rattle.queue.specs.Turns.{put_of}
 use Rattle.queue.specs.Run.{Call, put, take, call_of, after, accepted, taken}
 use Rattle.queue.specs.declared.Queue.{Queue}
 use Rattle.queue.specs.declared.Answer.{Answer}
-use Rattle.queue.specs.declared.Outcome.{Outcome}
+use Rattle.queue.specs.declared.Refusal.{Refusal}
 use Rattle.queue.proofs.Fit.{empty_fit}
 use Rattle.queue.proofs.Cases.{ring_kept}
-use Rattle.queue.proofs.Theorems.{Kept, promise, refused_untouched, refused_with_1 as unfit_only, begun as begun_empty}
+use Rattle.queue.proofs.Theorems.{Kept, promise, refused_untouched, refused_with_1 as unfit_only, same_refusal, begun as begun_empty}
 use Rattle.queue_image.specs.Save.{saved, saved_in}
 use Rattle.queue_image.specs.Load.{is_image, queue_in}
 use Rattle.queue_image.proofs.RoundTrip.{queue_back, saved_image, parts, ring_long}
@@ -40,7 +42,7 @@ turned bytes c i = rw i (go (eqb (outcome_refusal a.outcome) 0) refl)
     q : Queue
     q = queue_in bytes
 
-    a : Answer
+    a : Answer ℕ
     a = call_of q c
 
     go : (t : Bool) → eqb (outcome_refusal a.outcome) 0 ≡ t → Turned bytes c (cond t (saved_in a.queue bytes) bytes)
@@ -82,7 +84,7 @@ pub record KeptIn (bytes : List ℕ) (cs : List Call) : Type 0 where
       answered_as (outcome_in (after_in bytes cs) take)
       ≡ cond (eqb (length (accepted_in bytes cs)) (length (taken_in bytes cs))) (8 * 65536) (get_or (accepted_in bytes cs) (length (taken_in bytes cs)) 0)
 
-as_numbers_lem : (o : Outcome) (t : Bool) (k : ℕ) → outcome_refusal o ≡ cond t k 0 → outcome_word o ≡ 0 → answered_as o ≡ cond t (k * 65536) 0
+as_numbers_lem : (o : Result ℕ Refusal) (t : Bool) (k : ℕ) → outcome_refusal o ≡ cond t k 0 → outcome_word o ≡ 0 → answered_as o ≡ cond t (k * 65536) 0
 as_numbers_lem o true k r w = rw (r, w) (omega arith)
 as_numbers_lem o false k r w = rw (r, w) refl
 
@@ -93,7 +95,7 @@ promise_held bytes cs i f none =
     let k = promise q cs (ring_long bytes i) f none in
     record {
       in_order = rw (s.came, s.went, s.queue) k.in_order;
-      next_put = λ w. rw (outcome_of_lem (after_in bytes cs) (put w) s.image, s.came, s.went, s.queue) (as_numbers_lem (call_of (after q cs) (put w)).outcome (eqb (length (accepted q cs)) (length (taken q cs) + 128)) 7 (k.next_put w) (k.next_put_word w));
+      next_put = λ w. rw (outcome_of_lem (after_in bytes cs) (put w) s.image, s.came, s.went, s.queue) (as_numbers_lem (call_of (after q cs) (put w)).outcome (eqb (length (accepted q cs)) (length (taken q cs) + 128)) 7 (same_refusal (put_of (after q cs) w).outcome ∙ k.next_put w) (k.next_put_word w));
       next_take = rw (outcome_of_lem (after_in bytes cs) take s.image, s.came, s.went, s.queue) (taken_as q cs k);
     }
   where

@@ -16,17 +16,19 @@ use Rattle.chassis.specs.declared.Errand.{Errand}
 use Rattle.chassis.specs.declared.Refusal.TheVariants.{WrongLength, Unfit}
 use Rattle.chassis.specs.declared.Seen.{Seen}
 use Rattle.chassis.specs.declared.Told.{Told}
-use Rattle.chassis.specs.declared.Verdict.{Verdict}
-use Rattle.chassis.specs.declared.Verdict.TheVariants.{Sent, Refused}
 use Rattle.chassis.proofs.Accepting.{at_most_four}
 use Rattle.chassis.proofs.Looked.{judged_seen}
 use Rattle.chassis.proofs.Rounds.{passed_records, passed_told}
-use Rattle.image.specs.Load.{is_image, state_in, load_of, state_by}
+use Rattle.image.specs.Load.{is_image, state_in}
 use Rattle.image.specs.Shape.{Octets}
 use Rattle.image.proofs.Whole.{image_whole}
+use Rattle.std.proofs.lemmas.Option.{same_Some}
 use Rattle.image.proofs.RoundTrip.{saved_loaded}
 use Rattle.link.proofs.Parts.{octets_part}
-use Rattle.link.specs.Lists.{images_of, images_in, not_images, count_in, parts_of, parts_in, states_in, all_images, refused_with, told_in, list_in, record_in, loaded_in, round_in, passed_in}
+use Rattle.link.specs.Lists.{images_of, images_in, not_images, count_in, parts_of, parts_in, states_of, states_in, all_images, refused_with, told_in, list_in, round_in, passed_in}
+use Rattle.chassis.specs.declared.Refusal.{Refusal}
+use Rattle.event.specs.declared.Event.{Event}
+use Rattle.std.specs.Prelude.{Option, Some, None, Err, Ok, Result}
 
 -- ---- the length
 
@@ -55,33 +57,41 @@ of_four n h = let t = whole_list n h in go (n / 74) (omega (arith, t.0)) t.1
     go (suc (suc (suc (suc zero)))) e w = inr (inr e)
     go (suc (suc (suc (suc (suc q))))) e w = absurd (omega (arith, at_most_four (suc (suc (suc (suc (suc q))))) w))
 
-pub none_of_four : (n : ℕ) → n ≢ 74 → n ≢ 148 → n ≢ 222 → n ≢ 296 → count_in n ≡ 0
+pub none_of_four : (n : ℕ) → n ≢ 74 → n ≢ 148 → n ≢ 222 → n ≢ 296 → count_in n ≡ None
 none_of_four n a b c d = go (not_images n) refl
   where
-    go : (t : Bool) → not_images n ≡ t → cond t 0 (n / 74) ≡ 0
+    go : (t : Bool) → not_images n ≡ t → cond t None (Some (n / 74)) ≡ None
     go true e = refl
     go false e = absurd (⊎_elim (⊎_elim a b) (⊎_elim c d) (of_four n e))
 
--- A count of 0 is a wrong length, and any other the number of images.
-pub count_none : (n : ℕ) → count_in n ≡ 0 → not_images n ≡ true
+no_value : {n : ℕ} → ◌≡◌ {A = Option ℕ} (Some n) None → ⊥
+no_value e = let z : ◌≡◌ {A = ℕ} 0 1 = cc in omega arith
+
+-- No count is a wrong length, and one is the number of images.
+pub count_none : (n : ℕ) → count_in n ≡ None → not_images n ≡ true
 count_none n = go (not_images n) refl
   where
-    go : (t : Bool) → not_images n ≡ t → cond t 0 (n / 74) ≡ 0 → not_images n ≡ true
+    go : (t : Bool) → not_images n ≡ t → cond t None (Some (n / 74)) ≡ None → not_images n ≡ true
     go true e z = e
-    go false e z = absurd (true≢false (rw z at (whole_list n e).1))
+    go false e z = absurd (no_value z)
 
-pub record Counted (n : ℕ) : Type 0 where
+-- What is not Some is None.
+pub unlisted : (n : ℕ) (r : Option ℕ) → r ≡ count_in n → ((m : ℕ) → r ≡ Some m → ⊥) → count_in n ≡ None
+unlisted n None e other = sym e
+unlisted n (Some m) e other = absurd (other m refl)
+
+pub record Counted (n count : ℕ) : Type 0 where
   pub a_list : not_images n ≡ false
-  pub count_is : count_in n ≡ n / 74
+  pub count_is : count ≡ n / 74
   pub few : n / 74 ≤ 4
   pub whole : n ≡ n / 74 * 74
 
-pub counted : (n : ℕ) → count_in n ≢ 0 → Counted n
-counted n z = go (not_images n) refl
+pub counted : (n count : ℕ) → count_in n ≡ Some count → Counted n count
+counted n count = go (not_images n) refl
   where
-    go : (t : Bool) → not_images n ≡ t → Counted n
-    go true e = absurd (z (rw e refl))
-    go false e = record { a_list = e; count_is = rw e refl; few = at_most_four (n / 74) (whole_list n e).1; whole = omega (arith, (whole_list n e).0) }
+    go : (t : Bool) → not_images n ≡ t → cond t None (Some (n / 74)) ≡ Some count → Counted n count
+    go true e s = absurd (no_value (sym s))
+    go false e s = record { a_list = e; count_is = sym (same_Some _ _ s); few = at_most_four (n / 74) (whole_list n e).1; whole = omega (arith, (whole_list n e).0) }
 
 -- ---- the parts
 
@@ -90,22 +100,11 @@ unfolding parts_of
 parts_length zero bytes = refl
 parts_length (suc k) bytes = ap suc (parts_length k (drop 74 bytes))
 
-state_loaded : (p : List ℕ) → is_image p ≡ true → record_in p ≡ state_in p
-unfolding load_of
-state_loaded p i = ap (λ v. state_by v p) (image_whole p i)
-
-pub states_loaded : (ps : List (List ℕ)) → all_images ps ≡ true → map record_in ps ≡ map state_in ps
-unfolding all_images
-states_loaded [] h = refl
-states_loaded (p ∷ ps) h =
-    let b = (and-eq-true_iff (is_image p) (all_images ps)).0 h in
-    rw (state_loaded p b.0, states_loaded ps b.1)
-
 -- So many as are passed are images too.
-pub images_passed : (v : Verdict) (m : ℕ) (bytes : List ℕ) → all_images (parts_of m bytes) ≡ true → all_images (parts_of (places_by v m) bytes) ≡ true
+pub images_passed : (v : Result Event Refusal) (m : ℕ) (bytes : List ℕ) → all_images (parts_of m bytes) ≡ true → all_images (parts_of (places_by v m) bytes) ≡ true
 unfolding parts_of all_images
-images_passed (Sent e) m bytes h = h
-images_passed (Refused x) m bytes h = refl
+images_passed (Ok e) m bytes h = h
+images_passed (Err x) m bytes h = refl
 
 -- The images of their states are the bytes.
 pub images_back :
@@ -134,7 +133,7 @@ module _ (bytes : List ℕ) (n w : ℕ) where
   unfolding told_in list_in
   no_image h i = rw (h, i) (refl, refl)
 
-  -- The states of images are what was loaded, so the call that was judged is the rule's, and so are what was passed and what is told.
+  -- The call that was judged is the rule's, and so are what was passed and what is told.
   module _ (h : not_images (length bytes) ≡ false) (all : all_images (parts_in bytes) ≡ true) where
     abbrev count : ℕ
     count = images_in (length bytes)
@@ -142,18 +141,15 @@ module _ (bytes : List ℕ) (n w : ℕ) where
     abbrev states : List Controller
     states = states_in bytes
 
-    loaded : loaded_in bytes count ≡ states
-    loaded = states_loaded (parts_in bytes) all
-
     as_many : length states ≡ count
     as_many = length-map (parts_in bytes) state_in ∙ parts_length count bytes
 
     -- The errand of a verdict.
-    abbrev judged_as : Verdict → Errand
+    abbrev judged_as : Result Event Refusal → Errand
     judged_as v = record { verdict = v; named = n; word = w }
 
-    judged_so_lem : (seen : Seen) → seen ≡ seen_to begun count (loaded_in bytes count) → count ≤ 4 → judged_as (judged count seen.standings n w) ≡ errand_of states n w
-    judged_so_lem seen e few = rw (e, loaded, verdict_is)
+    judged_so_lem : (seen : Seen) → seen ≡ seen_to begun count states → count ≤ 4 → judged_as (judged count seen.standings n w) ≡ errand_of states n w
+    judged_so_lem seen e few = rw (e, verdict_is)
       where
         looked : (m : ℕ) → m ≡ count → judged m (seen_to begun (looked_at m) states).standings n w ≡ judged count (seen_to begun count states).standings n w
         looked m q = rw (q, le-ltb 4 count few)
@@ -161,24 +157,24 @@ module _ (bytes : List ℕ) (n w : ℕ) where
         verdict_is : judged count (seen_to begun count states).standings n w ≡ verdict_of states n w
         verdict_is = sym (looked (length states) as_many) ∙ judged_seen states n w
 
-    told_so : (v : Verdict) → told_after v (round_in bytes (places_by v count) (judged_as v)) ≡ told_after v (round_to (judged_as v) (set_out_of (judged_as v)) (places_by v (length states)) states)
-    told_so (Sent e) = rw as_many
-    told_so (Refused x) = refl
+    told_so : (v : Result Event Refusal) → told_after v (round_in bytes (places_by v count) (judged_as v)) ≡ told_after v (round_to (judged_as v) (set_out_of (judged_as v)) (places_by v (length states)) states)
+    told_so (Ok e) = rw as_many
+    told_so (Err x) = refl
 
     -- A refused call passes none, and the bytes are the images of the states.
     left_so :
-        Octets bytes → length bytes ≡ count * 74 → (v : Verdict)
+        Octets bytes → length bytes ≡ count * 74 → (v : Result Event Refusal)
         → passed_in bytes (places_by v count) (judged_as v) ≡ images_of (records_to (judged_as v) (set_out_of (judged_as v)) (places_by v (length states)) states)
     unfolding records_to images_of parts_of
-    left_so o whole (Sent e) = rw (as_many, drop_of_length-le bytes {i = count * 74} (omega (arith, whole)), append-nil)
-    left_so o whole (Refused x) = sym (images_back count bytes o whole all)
+    left_so o whole (Ok e) = rw (as_many, drop_of_length-le bytes {i = count * 74} (omega (arith, whole)), append-nil)
+    left_so o whole (Err x) = sym (images_back count bytes o whole all)
 
     pub steps :
-        Octets bytes → Counted (length bytes) → (m : ℕ) → m ≡ count → (seen : Seen) → seen ≡ seen_to begun m (loaded_in bytes m)
+        Octets bytes → (m : ℕ) → Counted (length bytes) m → (seen : Seen) → seen ≡ seen_to begun m (states_of (parts_of m bytes))
         → (r : Errand) → r ≡ judged_as (judged m seen.standings n w)
         → Comes (told_after r.verdict (round_in bytes (places_by r.verdict m) r)) (passed_in bytes (places_by r.verdict m) r)
     unfolding told_in list_in
-    steps o k m q seen e r j = rw (q, as_judged, h, all) (told_so (verdict_of states n w) ∙ passed_told states n w, left_so o k.whole (verdict_of states n w) ∙ ap images_of (passed_records states n w))
+    steps o m k seen e r j = rw (k.count_is, as_judged, h, all) (told_so (verdict_of states n w) ∙ passed_told states n w, left_so o k.whole (verdict_of states n w) ∙ ap images_of (passed_records states n w))
       where
         as_judged : r ≡ errand_of states n w
-        as_judged = j ∙ rw q (judged_so_lem seen (rw q at e) k.few)
+        as_judged = j ∙ rw k.count_is (judged_so_lem seen (rw k.count_is at e) k.few)

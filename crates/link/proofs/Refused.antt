@@ -13,15 +13,10 @@ use Rattle.dock.specs.Record.{fresh_controller}
 use Rattle.dock.specs.Step.{step_of, told_reading, told_outputs}
 use Rattle.dock.specs.Answers.{refusal_of, told_refusal}
 use Rattle.dock.specs.Held.{held_refusal, told_held}
-use Rattle.dock.specs.declared.Answer.TheVariants as answer
-use Rattle.dock.specs.declared.Told.{Told}
-use Rattle.dock.specs.declared.Told.TheVariants as told
-use Rattle.dock.specs.declared.HeldByte.TheVariants as held_byte
 use Rattle.dock.proofs.Refusals.{refused_unchanged, exactly, Answers, reading_told, outputs_told}
 use Rattle.dock.proofs.OpenRead.{held_refused}
 use Rattle.batch.specs.Batch.{outcome_of, buffer_after}
-use Rattle.batch.specs.Outcome.{outcome_refusal, outcome_count}
-use Rattle.batch.specs.declared.Outcome.TheVariants as outcome
+use Rattle.calls.specs.Numbers.{outcome_refusal, outcome_count}
 use Rattle.batch.proofs.Accepted.{refused_untouched, exactly as batch_exactly}
 use Rattle.image.specs.Save.{saved}
 use Rattle.image.specs.Load.{is_image, state_in}
@@ -30,6 +25,10 @@ use Rattle.image.proofs.Whole.{image_whole}
 use Rattle.image.proofs.RoundTrip.{saved_loaded}
 use Rattle.link.specs.Answer.{both}
 use Rattle.link.specs.Held.{begun, begun_in, answer_in, stepped_in, outcome_in, batched_in, records_in, reading_in, outputs_in, held_in}
+use Rattle.dock.specs.declared.Refusal.TheVariants.{Unfit}
+use Rattle.dock.specs.declared.Refusal.{Refusal}
+use Rattle.std.specs.Prelude.{Err, Result}
+use Rattle.calls.specs.declared.Refusal.TheVariants.{Unfit}
 
 -- A state is begun exactly where its length is an image's; else the answer is refusal 1.
 pub begin_exactly : (n : ℕ) → ((begun n ≡ 0) ↔ (n ≡ 74)) × ((begun n ≡ 1 * 65536) ↔ (n ≢ 74))
@@ -60,7 +59,7 @@ module _ (bytes : List ℕ) where
   unfolding answer_in stepped_in
   step_untouched o w =
       by_image
-      (λ b. refusal_of (cond b (step_of (state_in bytes) w).answer answer.Unfit) ≢ 0 → cond b (saved (step_of (state_in bytes) w).controller) bytes ≡ bytes)
+      (λ b. refusal_of (cond b (step_of (state_in bytes) w).answer (Err Unfit)) ≢ 0 → cond b (saved (step_of (state_in bytes) w).controller) bytes ≡ bytes)
       (λ i n. ap saved (refused_unchanged (state_in bytes) w n) ∙ saved_loaded bytes o (image_whole bytes i))
       (λ i n. refl)
 
@@ -96,7 +95,7 @@ module _ (bytes : List ℕ) where
     pub by_outputs : (told_refusal (outputs_in bytes) ≡ 1) ↔ (usable ≡ false)
     pub by_held_byte : (held_refusal (held_in bytes) ≡ 1) ↔ (usable ≡ false)
 
-  told_exactly : (t : Told) (v : ℕ) → Answers (state_in bytes) t v → (told_refusal t ≡ 1) ↔ (fits (state_in bytes).machine ≡ false)
+  told_exactly : (t : Result ℕ Refusal) (v : ℕ) → Answers (state_in bytes) t v → (told_refusal t ≡ 1) ↔ (fits (state_in bytes).machine ≡ false)
   told_exactly t v a = go (fits (state_in bytes).machine) refl
     where
       go : (f : Bool) → fits (state_in bytes).machine ≡ f → (told_refusal t ≡ 1) ↔ (f ≡ false)
@@ -109,20 +108,20 @@ module _ (bytes : List ℕ) where
       record {
         by_step =
             λ w.
-            by_image (λ b. (refusal_of (cond b (step_of (state_in bytes) w).answer answer.Unfit) ≡ 1) ↔ ((b && fits (state_in bytes).machine) ≡ false))
+            by_image (λ b. (refusal_of (cond b (step_of (state_in bytes) w).answer (Err Unfit)) ≡ 1) ↔ ((b && fits (state_in bytes).machine) ≡ false))
             (λ i. (exactly (state_in bytes) w).one) (λ i. (λ e. refl, λ e. refl));
         by_batch =
             λ words room.
-            by_image (λ b. (outcome_refusal (cond b (outcome_of (state_in bytes) words room) outcome.Unfit) ≡ 1) ↔ ((b && fits (state_in bytes).machine) ≡ false))
+            by_image (λ b. (outcome_refusal (cond b (outcome_of (state_in bytes) words room) (Err Unfit)) ≡ 1) ↔ ((b && fits (state_in bytes).machine) ≡ false))
             (λ i. (batch_exactly (state_in bytes) words room).one) (λ i. (λ e. refl, λ e. refl));
         by_reading =
             λ a.
-            by_image (λ b. (told_refusal (cond b (told_reading (state_in bytes) a) told.Unfit) ≡ 1) ↔ ((b && fits (state_in bytes).machine) ≡ false))
+            by_image (λ b. (told_refusal (cond b (told_reading (state_in bytes) a) (Err Unfit)) ≡ 1) ↔ ((b && fits (state_in bytes).machine) ≡ false))
             (λ i. told_exactly _ _ (reading_told (state_in bytes) a)) (λ i. (λ e. refl, λ e. refl));
         by_outputs =
-            by_image (λ b. (told_refusal (cond b (told_outputs (state_in bytes)) told.Unfit) ≡ 1) ↔ ((b && fits (state_in bytes).machine) ≡ false))
+            by_image (λ b. (told_refusal (cond b (told_outputs (state_in bytes)) (Err Unfit)) ≡ 1) ↔ ((b && fits (state_in bytes).machine) ≡ false))
             (λ i. told_exactly _ _ (outputs_told (state_in bytes))) (λ i. (λ e. refl, λ e. refl));
         by_held_byte =
-            by_image (λ b. (held_refusal (cond b (told_held (state_in bytes)) held_byte.Unfit) ≡ 1) ↔ ((b && fits (state_in bytes).machine) ≡ false))
+            by_image (λ b. (held_refusal (cond b (told_held (state_in bytes)) (Err Unfit)) ≡ 1) ↔ ((b && fits (state_in bytes).machine) ≡ false))
             (λ i. held_refused (state_in bytes)) (λ i. (λ e. refl, λ e. refl));
       }

@@ -8,8 +8,6 @@ use lib.Dec.{eqb, ltb}
 use lib.ListN.{length, get_or, take, drop}
 use borrow.Author.Tests.{eqb-true, eqb-false, ltb-true, ltb-false}
 use Rattle.event.specs.Words.{unpacked}
-use Rattle.event.specs.declared.Unpacked.{Unpacked}
-use Rattle.event.specs.declared.Unpacked.TheVariants.{Accepted, StrayBit as NoEvent}
 use Rattle.event.proofs.Theorems.{words_refused}
 use Rattle.bay.proofs.Taut.{pick}
 use Rattle.machine.specs.Record.{fits}
@@ -18,13 +16,10 @@ use Rattle.dock.specs.Answers.{told_value}
 use Rattle.dock.specs.Record.{fresh_controller}
 use Rattle.dock.specs.Step.{told_outputs}
 use Rattle.dock.specs.declared.Controller.{Controller}
-use Rattle.dock.specs.declared.Told.{Told as Value}
 use Rattle.batch.proofs.Decode.{reply_small}
 use Rattle.chassis.specs.Chassis.{shown, told_of}
 use Rattle.chassis.proofs.Widths.{Held, told_byte_wide}
 use Rattle.chassis.specs.Numbers.{refusal_number, answer_refusal, answer_reply, answer_byte}
-use Rattle.chassis.specs.declared.Answer.{Answer}
-use Rattle.chassis.specs.declared.Answer.TheVariants.{Done, Refused}
 use Rattle.chassis.specs.declared.Refusal.{Refusal}
 use Rattle.chassis.specs.declared.Refusal.TheVariants.{WrongLength, Unfit, StrayBit, Absent, NotStarted, AddressTaken}
 use Rattle.chassis.specs.declared.Told.{Told}
@@ -35,6 +30,11 @@ use Rattle.image.specs.Shape.{Octets}
 use Rattle.image.proofs.OpenRead.{held_byte_wide}
 use Rattle.link.proofs.Parts.{octets_part}
 use Rattle.link.specs.Lists.{images_in, not_images, parts_of, parts_in, states_of, states_in, all_images, refused_with, told_in, chassis_as}
+use Rattle.std.specs.Prelude.{Result, Ok, Err}
+use Rattle.event.specs.declared.Event.{Event}
+use Rattle.event.specs.declared.NoEvent.{NoEvent}
+use Rattle.dock.specs.declared.Refusal.{Refusal as Unread}
+use Rattle.bus.specs.declared.Reply.{Reply}
 
 refusal_small : (x : Refusal) → refusal_number x < 12
 refusal_small WrongLength = omega arith
@@ -44,9 +44,9 @@ refusal_small Absent = omega arith
 refusal_small NotStarted = omega arith
 refusal_small AddressTaken = omega arith
 
-pub answer_small : (a : Answer) → (answer_refusal a < 12) × (answer_reply a < 8)
-answer_small (Done r) = (omega arith, reply_small r)
-answer_small (Refused x) = (refusal_small x, omega arith)
+pub answer_small : (a : Result Reply Refusal) → (answer_refusal a < 12) × (answer_reply a < 8)
+answer_small (Ok r) = (omega arith, reply_small r)
+answer_small (Err x) = (refusal_small x, omega arith)
 
 -- ---- what division tells back
 
@@ -86,7 +86,7 @@ none_small (suc (suc (suc (suc i)))) = omega arith
 
 pub shown_small : (c : Controller) → shown c < 512
 unfolding told_outputs
-shown_small c = pick (λ (v : Value). told_value v < 512) (fits c.machine) (λ f. outputs_nine_bits c.machine) (λ f. omega arith)
+shown_small c = pick (λ (v : Result ℕ Unread). told_value v < 512) (fits c.machine) (λ f. outputs_nine_bits c.machine) (λ f. omega arith)
 
 told_small : (cs : List Controller) (n w i : ℕ) → get_or (told_of cs n w).outputs i 0 < 512
 told_small cs n w i = go (eqb refusal 0) refl
@@ -94,9 +94,9 @@ told_small cs n w i = go (eqb refusal 0) refl
     refusal : ℕ
     refusal = answer_refusal (told_of cs n w).answer
 
-    at_place : refusal ≡ 0 → (u : Unpacked) → unpacked w ≡ u → get_or (told_of cs n w).outputs i 0 < 512
-    at_place r NoEvent u = absurd (((exactly cs n w).none.0 r).2 ((words_refused w).0 u))
-    at_place r (Accepted e) u = by_place (ltb i (length cs)) refl
+    at_place : refusal ≡ 0 → (u : Result Event NoEvent) → unpacked w ≡ u → get_or (told_of cs n w).outputs i 0 < 512
+    at_place r (Err why) u = absurd (((exactly cs n w).none.0 r).2 ((words_refused w).0 u))
+    at_place r (Ok e) u = by_place (ltb i (length cs)) refl
       where
         by_place : (b : Bool) → ltb i (length cs) ≡ b → get_or (told_of cs n w).outputs i 0 < 512
         by_place true l = rw ((at_each_place cs n w e i fresh_controller (sent cs n w e u r)).outputs (ltb-true i (length cs) l)) (shown_small _)

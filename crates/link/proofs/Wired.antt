@@ -1,50 +1,36 @@
 -- Samples heard from a held state that the caller holds: what the call's definitions come to, by what was loaded. Assumes nothing.
 use Prim.Native.Nat.{ℕ, ◌≤◌}
 use native.Mathlib.Omega.{arith}
-use mathlib.Core.Path.{◌≡◌, refl, ap, ◌∙◌}
+use mathlib.Core.Path.{◌≡◌, refl, sym, ap, ◌∙◌}
 use mathlib.Core.Bool.{Bool, true, false}
 use mathlib.Core.Logic.{◌≢◌}
-use mathlib.Core.List.{List, [], ◌∷◌, ◌++◌, append-nil}
-use lib.Dec.{T, ltb}
-use lib.ListN.{length, take, drop, drop_of_length-le}
-use lib.Seq.{take-length}
+use mathlib.Core.List.{List}
+use lib.Dec.{ltb}
+use lib.ListN.{length}
 use borrow.Author.Tests.{ltb-false}
-use denote.Enum.Declared.{tag_of}
+use Rattle.std.specs.Prelude.{Result, Ok, Err}
 use Rattle.bay.proofs.Taut.{pick}
-use Rattle.bus.proofs.Cases.{among}
+use Rattle.calls.specs.Numbers.{outcome_refusal, outcome_count}
+use Rattle.calls.specs.declared.Refusal.{Refusal}
+use Rattle.calls.specs.declared.Refusal.TheVariants.{Unfit}
 use Rattle.wire.specs.Record.{fits}
 use Rattle.wire.specs.Listen.{outcome_of, state_by, listen_of, places_by, places_after}
-use Rattle.wire.specs.Outcome.{outcome_refusal, outcome_count}
 use Rattle.wire.specs.Image.{is_image, saved, wire_in}
 use Rattle.wire.specs.declared.Wire.{Wire}
 use Rattle.wire.specs.declared.Listened.{Listened}
-use Rattle.wire.specs.declared.Outcome.{Outcome}
-use Rattle.wire.specs.declared.Outcome.TheVariants.{Done, Unfit, TooFewPlaces, TooManySamples}
-use Rattle.wire.specs.contracts.Outcome.{the_type}
 use Rattle.wire.proofs.Cut.{words_most}
 use Rattle.wire.proofs.Bytes.{saved_image, state_back}
 use Rattle.link.specs.Wires.{bytes_by, outcome_in, listened_in, words_in}
 
--- Bytes copied over as many.
-pub copied : (image held : List ℕ) → length held ≡ length image → take (length image) image ++ drop (length image) held ≡ image
-copied image held e =
-    rw (take-length image, drop_of_length-le held {i = length image} (omega (arith, e))) (append-nil image)
-
 -- What the call leaves, whatever it is: the outcome, the bytes, and the places.
-pub record Left (bytes samples places : List ℕ) (o : Outcome) (now-held now-words : List ℕ) : Type 0 where
+pub record Left (bytes samples places : List ℕ) (o : Result ℕ Refusal) (now-held now-words : List ℕ) : Type 0 where
   pub outcome : o ≡ outcome_in bytes samples (length places)
   pub held : now-held ≡ listened_in bytes samples (length places)
   pub words : now-words ≡ words_in bytes samples places
 
-pub heard_nothing : (bytes samples places : List ℕ) → is_image bytes ≡ false → Left bytes samples places Unfit bytes places
+pub heard_nothing : (bytes samples places : List ℕ) → is_image bytes ≡ false → Left bytes samples places (Err Unfit) bytes places
 unfolding outcome_in listened_in words_in
 heard_nothing bytes samples places n = record { outcome = rw n; held = rw n; words = rw n }
-
-as_they_came : (o : Outcome) → T (among (tag_of the_type o) (1 ∷ 2 ∷ 3 ∷ [])) → (w : Wire) (samples bytes : List ℕ) → bytes_by o w samples bytes ≡ bytes
-as_they_came (Done n) h w samples bytes = absurd h
-as_they_came Unfit h w samples bytes = refl
-as_they_came TooFewPlaces h w samples bytes = refl
-as_they_came TooManySamples h w samples bytes = refl
 
 module _ (bytes samples places : List ℕ) (w : Wire) (image : is_image bytes ≡ true) (is : w ≡ wire_in bytes) (r : Listened) (e : r ≡ listen_of w samples (length places)) where
   told : r.outcome ≡ outcome_of (wire_in bytes) samples (length places)
@@ -56,23 +42,22 @@ module _ (bytes samples places : List ℕ) (w : Wire) (image : is_image bytes �
   told_in = rw image told
 
   pub heard_refused :
-      (words : List ℕ) → words ≡ places_after w samples places → T (among (tag_of the_type r.outcome) (1 ∷ 2 ∷ 3 ∷ []))
-      → Left bytes samples places r.outcome bytes words
+      (words : List ℕ) (x : Refusal) → words ≡ places_after w samples places → r.outcome ≡ Err x → Left bytes samples places (Err x) bytes words
   unfolding listened_in words_in
-  heard_refused words p h =
+  heard_refused words x p d =
       record {
-        outcome = told_in;
-        held = rw (image, ← told, as_they_came r.outcome h (wire_in bytes) samples bytes);
+        outcome = sym d ∙ told_in;
+        held = rw (image, ← told, d) refl;
         words = rw image (p ∙ ap (λ t. places_after t samples places) is);
       }
 
   pub heard :
-      (words : List ℕ) (n : ℕ) → words ≡ places_after w samples places → r.outcome ≡ Done n
-      → Left bytes samples places r.outcome (saved r.wire) words
+      (words : List ℕ) (n : ℕ) → words ≡ places_after w samples places → r.outcome ≡ Ok n
+      → Left bytes samples places (Ok n) (saved r.wire) words
   unfolding listened_in words_in listen_of
   heard words n p d =
       record {
-        outcome = told_in;
+        outcome = sym d ∙ told_in;
         held = rw (image, ← told, d) (ap saved (ap (λ (x : Listened). x.wire) e ∙ rw (is, ← told, d)));
         words = rw image (p ∙ ap (λ t. places_after t samples places) is);
       }
@@ -86,7 +71,7 @@ count_most w samples places =
     (λ m. pick Small (ltb places (length samples)) (λ b. omega arith) (λ b. omega (arith, ltb-false 16384 (length samples) m, words_most w samples))))
     (λ f. omega arith)
   where
-    Small : Outcome → Type 0
+    Small : Result ℕ Refusal → Type 0
     Small o = outcome_count o ≤ 16384
 
 pub heard_most : (bytes samples : List ℕ) (places : ℕ) → outcome_count (outcome_in bytes samples places) ≤ 16384
@@ -109,11 +94,9 @@ as_the_cell w samples places =
       words = rw (saved_image w, state_back w);
     }
   where
-    by_outcome : (o : Outcome) → bytes_by o w samples (saved w) ≡ saved (state_by o w samples)
-    by_outcome (Done n) = refl
-    by_outcome Unfit = refl
-    by_outcome TooFewPlaces = refl
-    by_outcome TooManySamples = refl
+    by_outcome : (o : Result ℕ Refusal) → bytes_by o w samples (saved w) ≡ saved (state_by o w samples)
+    by_outcome (Ok n) = refl
+    by_outcome (Err r) = refl
 
 -- Refused: the bytes as they came, count 0, nothing written.
 pub record AsTheyCame (bytes samples places : List ℕ) : Type 0 where
@@ -128,11 +111,9 @@ refused_as_they_came bytes samples places = go (is_image bytes) refl
     w : Wire
     w = wire_in bytes
 
-    accepted_not : (o : Outcome) → outcome_refusal o ≢ 0 → (bytes_by o w samples bytes ≡ bytes) × (places_by o w samples places ≡ places) × (outcome_count o ≡ 0)
-    accepted_not (Done n) h = absurd (h refl)
-    accepted_not Unfit h = (refl, refl, refl)
-    accepted_not TooFewPlaces h = (refl, refl, refl)
-    accepted_not TooManySamples h = (refl, refl, refl)
+    accepted_not : (o : Result ℕ Refusal) → outcome_refusal o ≢ 0 → (bytes_by o w samples bytes ≡ bytes) × (places_by o w samples places ≡ places) × (outcome_count o ≡ 0)
+    accepted_not (Ok n) h = absurd (h refl)
+    accepted_not (Err r) h = (refl, refl, refl)
 
     go : (t : Bool) → is_image bytes ≡ t → outcome_refusal (outcome_in bytes samples (length places)) ≢ 0 → AsTheyCame bytes samples places
     go false e h = record { held = rw e; words = rw e; count = rw e }

@@ -1,13 +1,11 @@
 -- Events as numbers: a kind, and the two numbers that it may have beside it (document 01, "Event words").
-use Rattle.std.specs.Prelude.{ℕ, ◌+◌, ◌*◌, ◌/◌, ◌%◌, ◌^◌, Bool, not, cond, ◌&&◌, [], ◌∷◌, eqb, leb, ltb, get_or}
+use Rattle.std.specs.Prelude.{ℕ, ◌+◌, ◌*◌, ◌/◌, ◌%◌, ◌^◌, Bool, not, cond, ◌&&◌, [], ◌∷◌, eqb, leb, ltb, get_or, None, Option, Some}
 use Rattle.event.specs.Words.{unpacked, packed, pack_refusal, pack_word}
 use Rattle.event.specs.declared.Event.{Event}
 use Rattle.event.specs.declared.Event.TheVariants.{Start, Stop, Byte, Take, Pins, Tick, Reset, Timeout}
-use Rattle.event.specs.declared.Unpacked.{Unpacked}
-use Rattle.event.specs.declared.Unpacked.TheVariants.{Accepted, StrayBit}
 use Rattle.link.specs.Answer.{both}
-use Rattle.link.specs.declared.Meant.{Meant}
-use Rattle.link.specs.declared.Meant.TheVariants.{This, NoEvent}
+use Rattle.std.specs.Prelude.{Result, Ok, Err}
+use Rattle.event.specs.declared.NoEvent.{NoEvent}
 
 -- Two numbers side by side, in bits 15-8 and 7-0. What the first has above its low byte stands in bits 31-24, above the refusal, so
 -- that a program that knows of no more than two bytes takes such an answer for a refusal.
@@ -29,9 +27,9 @@ numbers_of (Reset straps levels short) = pair (reset_first straps short) levels
 numbers_of Timeout = pair 0 0
 
 -- Unpacking: the event's two numbers, or refusal 2. Its kind is bits 15-13 of the word itself.
-abbrev pub as_numbers : Unpacked → ℕ
-as_numbers (Accepted e) = numbers_of e
-as_numbers StrayBit = both 2 0
+abbrev pub as_numbers : Result Event NoEvent → ℕ
+as_numbers (Ok e) = numbers_of e
+as_numbers (Err why) = both 2 0
 
 unfoldable pub unpacked_as : ℕ → ℕ
 unpacked_as w = as_numbers (unpacked w)
@@ -47,8 +45,8 @@ abbrev pub second_in : ℕ → ℕ
 second_in answer = answer % 256
 
 -- Three numbers are an event's where the kind is one of the table's and no number is set that it doesn't have.
-abbrev given : Bool → Event → Meant
-given proper e = cond proper (This e) NoEvent
+abbrev given : Bool → Event → Option Event
+given proper e = cond proper (Some e) None
 
 abbrev pub is_byte : ℕ → Bool
 is_byte n = leb n 255
@@ -56,7 +54,7 @@ is_byte n = leb n 255
 abbrev bare : ℕ → ℕ → Bool
 bare first second = eqb first 0 && eqb second 0
 
-unfoldable pub meant_by : ℕ → ℕ → ℕ → Meant
+unfoldable pub meant_by : ℕ → ℕ → ℕ → Option Event
 meant_by kind first second =
     get_or
     (given (bare first second) Start
@@ -69,12 +67,12 @@ meant_by kind first second =
     ∷ given (bare first second) Timeout
     ∷ [])
     kind
-    NoEvent
+    None
 
 -- Packing: refusal 2 where they are no event's, else as packing answers.
-abbrev pub packs : Meant → ℕ
-packs (This e) = both (pack_refusal (packed e)) (pack_word (packed e))
-packs NoEvent = both 2 0
+abbrev pub packs : Option Event → ℕ
+packs (Some e) = both (pack_refusal (packed e)) (pack_word (packed e))
+packs None = both 2 0
 
 unfoldable pub packed_as : ℕ → ℕ → ℕ → ℕ
 packed_as kind first second = packs (meant_by kind first second)

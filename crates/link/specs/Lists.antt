@@ -1,12 +1,12 @@
 -- The chassis's call on a list of states that the caller holds, as the bytes of their images, one after the other (document 02, request 9).
-use Rattle.std.specs.Prelude.{ℕ, zero, suc, ◌+◌, ◌*◌, ◌/◌, ◌%◌, ◌^◌, ◌≡◌, Bool, true, cond, not, ◌&&◌, ◌||◌, List, [], ◌∷◌, ◌++◌, map, eqb, length, get_or, take, drop}
+use Rattle.std.specs.Prelude.{ℕ, zero, suc, ◌+◌, ◌*◌, ◌/◌, ◌%◌, ◌^◌, Bool, true, cond, not, ◌&&◌, ◌||◌, List, [], ◌∷◌, ◌++◌, map, eqb, length, get_or, take, drop}
+use Rattle.std.specs.Prelude.{Option, Some, None, Err}
 use Rattle.dock.specs.declared.Controller.{Controller}
 use Rattle.chassis.specs.Judge.{wrong_length}
 use Rattle.chassis.specs.Chassis.{four, records_of, told_of}
 use Rattle.chassis.specs.Looking.{begun, seen_to}
 use Rattle.chassis.specs.Numbers.{answer_refusal, answer_reply, answer_byte}
 use Rattle.chassis.specs.Passing.{set_out_of, records_to, round_to}
-use Rattle.chassis.specs.declared.Answer.TheVariants.{Refused}
 use Rattle.chassis.specs.declared.Errand.{Errand}
 use Rattle.chassis.specs.declared.Refusal.{Refusal}
 use Rattle.chassis.specs.declared.Refusal.TheVariants.{WrongLength, Unfit}
@@ -14,8 +14,8 @@ use Rattle.chassis.specs.declared.Round.{Round}
 use Rattle.chassis.specs.declared.Told.{Told}
 use Rattle.image.specs.Layout.{BYTES}
 use Rattle.image.specs.Save.{saved}
-use Rattle.image.specs.Load.{is_image, state_in, load_of}
-use Rattle.link.specs.declared.Looked.{Looked}
+use Rattle.chassis.specs.declared.Seen.{Seen}
+use Rattle.image.specs.Load.{is_image, state_in}
 
 -- The images of records, one after the other.
 unfoldable pub images_of : List Controller → List ℕ
@@ -57,7 +57,7 @@ in_images bytes gives refuses =
 
 -- The answer, and the bytes afterwards.
 abbrev pub refused_with : Refusal → Told
-refused_with x = record { answer = Refused x; outputs = four [] }
+refused_with x = record { answer = Err x; outputs = four [] }
 
 unfoldable pub told_in : List ℕ → ℕ → ℕ → Told
 told_in bytes n w = in_images bytes (λ cs. told_of cs n w) refused_with
@@ -79,20 +79,13 @@ chassis_as t =
 
 -- ---- the code's own way
 
--- How many images there are, 0 for a wrong length.
-abbrev pub count_in : ℕ → ℕ
-count_in n = cond (not_images n) 0 (images_in n)
+-- How many images there are, unless the length is wrong.
+abbrev pub count_in : ℕ → Option ℕ
+count_in n = cond (not_images n) None (Some (images_in n))
 
--- The first so many parts, loaded whether they are images or not.
-abbrev pub record_in : List ℕ → Controller
-record_in part = (load_of part).controller
-
-abbrev pub loaded_in : List ℕ → ℕ → List Controller
-loaded_in bytes count = map record_in (parts_of count bytes)
-
-pub record Looks (bytes : List ℕ) (count : ℕ) (l : Looked) : Type 0 where
-  pub seen : l.seen ≡ seen_to begun count (loaded_in bytes count)
-  pub whole : l.whole ≡ all_images (parts_of count bytes)
+-- The first so many parts as they stand on the bus, where all of them are images.
+unfoldable pub seen_in : List ℕ → ℕ → Option Seen
+seen_in bytes count = cond (all_images (parts_of count bytes)) (Some (seen_to begun count (states_of (parts_of count bytes)))) None
 
 -- The first so many parts, where they are images, are passed in their place: what is gathered, and the bytes.
 abbrev pub round_in : List ℕ → ℕ → Errand → Round

@@ -1,9 +1,9 @@
 // The one layout of an answer: the refusal in bits 23-16, and a value below it.
 ghost use Rattle.std.specs.Prelude.{◌≡◌, ◌≤◌};
-ghost use Rattle.batch.specs.Outcome.{outcome_count};
+ghost use Rattle.calls.specs.Numbers.{outcome_count};
 ghost use Rattle.link.specs.Answer.{both, value_in, batched_as};
 
-use batch::Outcome;
+use calls::Outcome;
 
 pub(crate) fn both(refusal: u8, value: u16) -> u32
     ensures { result ≡ both refusal value }
@@ -18,10 +18,10 @@ pub(crate) fn value(answer: u32) -> u16
     (answer % 65536) as u16
 }
 
-// The refusal and the count of a batch.
+// The refusal and the count of a call over lists.
 pub(crate) fn counted(outcome: Outcome) -> u32
     requires { outcome_count outcome ≤ 16384 }
     ensures { result ≡ batched_as outcome }
 {
-    both(outcome.refusal(), outcome.count() as u16)
+    both(calls::number(outcome), calls::count(outcome) as u16)
 }

@@ -1,15 +1,9 @@
 // Events and their words.
-ghost use Rattle.std.specs.Prelude.{◌≡◌, cond};
+ghost use Rattle.std.specs.Prelude.{◌≡◌, cond, Some, None};
 ghost use Rattle.link.specs.Events.{pair, reset_first, numbers_of, unpacked_as, meant_by, packed_as};
 
-use crate::Meant;
 use crate::answer::both;
-use event::{Event, Unpacked};
-
-// The refusals that the library gives itself: a word with a bit set that must be 0, and numbers that are no event's.
-const STRAY_BIT: u8 = 2;
-
-const NO_EVENT: u8 = 2;
+use event::{Event, NoEvent};
 
 // What asks for the short pulse in the first number of a RESET, beside its straps.
 const SHORT_PULSE: u16 = 256;
@@ -66,25 +60,21 @@ pub fn dock_unpack(word: u16) -> u32
     ensures { result ≡ unpacked_as word }
 {
     match event::unpack(word) {
-        Unpacked::Accepted(e) => numbers(e),
-        Unpacked::StrayBit => both(STRAY_BIT, 0),
+        Ok(event) => numbers(event),
+        Err(refusal) => both(refusal.number(), 0),
     }
 }
 
 // An event where the numbers beside its kind are its own.
-fn given(proper: bool, event: Event) -> Meant
-    ensures { result ≡ cond proper (Meant.This event) Meant.NoEvent }
+fn given(proper: bool, event: Event) -> Option<Event>
+    ensures { result ≡ cond proper (Some event) None }
 {
-    if proper {
-        Meant::This(event)
-    } else {
-        Meant::NoEvent
-    }
+    proper.then_some(event)
 }
 
 // The event of a kind and its two numbers.
 #[tactic(auto, using(event::proofs::Rows::by_kind), unfolding(crate::specs::Events::meant_by))]
-fn event_by(kind: u8, first: u16, second: u8) -> Meant
+fn event_by(kind: u8, first: u16, second: u8) -> Option<Event>
     ensures { result ≡ meant_by kind first second }
 {
     let one = second == 0;
@@ -107,18 +97,20 @@ fn event_by(kind: u8, first: u16, second: u8) -> Meant
             },
         ),
         7 => given(bare, Event::Timeout),
-        _ => Meant::NoEvent,
+        _ => None,
     }
 }
 
-// The refusal and the word of three numbers; refusal 2 where they are no event's.
+// The refusal and the word of three numbers. Where they are no event's they are refused as a word is that has none.
 #[tactic(auto, unfolding(crate::specs::Events::packed_as))]
 pub fn dock_pack(kind: u8, first: u16, second: u8) -> u32
     ensures { result ≡ packed_as kind first second }
 {
-    let Meant::This(event) = event_by(kind, first, second) else {
-        return both(NO_EVENT, 0);
+    let Some(event) = event_by(kind, first, second) else {
+        return both(NoEvent.number(), 0);
     };
-    let packed = event::pack(event);
-    both(packed.refusal(), packed.word())
+    match event::pack(event) {
+        Ok(word) => both(0, word),
+        Err(refusal) => both(refusal.number(), 0),
+    }
 }

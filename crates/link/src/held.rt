@@ -2,33 +2,27 @@
 ghost use Rattle.std.specs.Prelude.{◌≡◌, length};
 ghost use Rattle.batch.specs.Decode.{number_of};
 ghost use Rattle.batch.specs.Record.{record_of};
-ghost use Rattle.image.specs.Layout.{BYTES};
 ghost use Rattle.link.specs.Answer.{batched_as, named_as, told_as, held_as};
-ghost use Rattle.link.specs.Held.{begun, begun_in, answer_in, stepped_in, outcome_in, batched_in, records_in, naming_in, named_in, reading_in, outputs_in, held_in};
+ghost use Rattle.link.specs.Held.{begun, begun_in, answer_in, stepped_in, outcome_in, batched_in, records_in, naming_in, named_in, reading_in, outputs_in, held_in, loaded_in};
 
 use crate::answer::{both, counted};
-use batch::Outcome;
-use dock::{HeldByte, Naming, Told};
-use image::Verdict;
-use image::load::load;
+use crate::images::put;
+use batch::Batched;
+use calls::Outcome;
+use dock::{Controller, NamingRefusal, Refusal, Renamed, held_value};
+use image::load::state_of;
 use image::save::{fresh, save};
 
-// The bytes are no image of a fit state.
-const UNFIT: u8 = 1;
-
-// The record of that refusal.
+// The record of refusal 1.
 const UNFIT_RECORD: u32 = 0x1000_0000;
 
-// Writes an image into the bytes lent.
-fn put(image: [u8; image::BYTES], state: &mut [u8])
-    requires state_len { length state.old ≡ BYTES }
-    requires image_len { length image ≡ BYTES }
-    ensures { state.new ≡ image }
+// What a question answered: the refusal and the value.
+fn told(answer: Result<u16, Refusal>) -> u32
+    ensures { result ≡ told_as answer }
 {
-    let mut i = 0;
-    while i < image::BYTES {
-        state[i] = image[i];
-        i += 1;
+    match answer {
+        Ok(value) => both(0, value),
+        Err(refusal) => both(refusal.number(), 0),
     }
 }
 
@@ -38,55 +32,50 @@ pub fn dock_begin(state: &mut [u8]) -> u32
     ensures value { result ≡ begun (length state.old) }
     ensures state_after { state.new ≡ begun_in state.old }
 {
-    if state.len() == image::BYTES {
-        put(fresh(), state);
-        return both(0, 0);
+    if state.len() != image::BYTES {
+        return told(Err(Refusal::Unfit));
     }
-    both(UNFIT, 0)
+    put(fresh(), state);
+    both(0, 0)
+}
+
+// The state of an image, fit or not.
+#[tactic(auto, unfolding(image::specs::Load::state_of, crate::specs::Held::loaded_in))]
+fn held(state: &[u8]) -> Result<Controller, Refusal>
+    ensures { result ≡ loaded_in state.now }
+{
+    state_of(state).ok_or(Refusal::Unfit)
 }
 
 // Takes words from the state held: the one place of the library that takes events.
-#[tactic(auto, using(bus::proofs::Cases::found, image::proofs::Whole::no_image, image::proofs::Whole::is_image_lem, image::proofs::Whole::image_whole, image::proofs::RoundTrip::parts, image::proofs::RoundTrip::saved_length, crate::proofs::Ran::ran_nothing, crate::proofs::Ran::ran, crate::proofs::Ran::ran_refused))]
 pub(crate) fn run(state: &mut [u8], words: &[u16], records: &mut [u8]) -> Outcome
     ensures value { result ≡ outcome_in state.old (length words.now) (length records.old) }
     ensures state_after { state.new ≡ batched_in state.old words.now (length records.old) }
     ensures records_after { records.new ≡ records_in state.old words.now records.old }
 {
-    let loaded = load(&*state);
-    let verdict = loaded.verdict;
-    let Verdict::Whole = verdict else {
-        return Outcome::Unfit;
+    let Some(controller) = state_of(&*state) else {
+        return Err(calls::Refusal::Unfit);
     };
-    let done = batch::batch(loaded.controller, words, records);
-    let outcome = done.outcome;
-    let Outcome::Done(_) = outcome else {
-        return outcome;
-    };
-    put(save(done.controller), state);
-    outcome
-}
-
-// Four bytes as one number, most significant first.
-fn number(bytes: &[u8]) -> u32
-    requires { length bytes.now ≡ 4 }
-    ensures { result ≡ number_of bytes.now }
-{
-    ((bytes[0] as u32 * 256 + bytes[1] as u32) * 256 + bytes[2] as u32) * 256 + bytes[3] as u32
+    let Batched {
+        controller,
+        outcome,
+    } = batch::batch(controller, words, records);
+    let count = outcome?;
+    put(save(controller), state);
+    Ok(count)
 }
 
 // One event. Answers its record's 32 bits.
-#[tactic(auto, using(bus::proofs::Cases::found, crate::proofs::OneWord::one_state, crate::proofs::OneWord::one_refused, crate::proofs::OneWord::one_record), unfolding(batch::specs::Record::record_of, batch::specs::Record::record_number))]
+#[tactic(auto, using(crate::proofs::OneWord::one_state, crate::proofs::OneWord::one_refused, crate::proofs::OneWord::one_record), unfolding(batch::specs::Record::record_of, batch::specs::Record::record_number))]
 pub fn dock_step(state: &mut [u8], word: u16) -> u32
     ensures value { result ≡ number_of (record_of (answer_in state.old word)) }
     ensures state_after { state.new ≡ stepped_in state.old word }
 {
-    let words = [word];
     let mut record = [0; batch::RECORD];
-    let outcome = run(state, &words, &mut record);
-    let Outcome::Done(_) = outcome else {
+    let Ok(_) = run(state, &[word], &mut record) else {
         return UNFIT_RECORD;
     };
-    number(&record)
+    u32::from_be_bytes(record)
 }
 
 // Many events, a record for each. Answers the refusal and the count.
@@ -99,82 +88,64 @@ pub fn dock_batch(state: &mut [u8], words: &[u16], records: &mut [u8]) -> u32
     counted(run(state, words, records))
 }
 
+fn name(state: &mut [u8], kind: u8) -> Result<(), NamingRefusal>
+    ensures value { result ≡ naming_in state.old kind }
+    ensures state_after { state.new ≡ named_in state.old kind }
+{
+    let Some(controller) = state_of(&*state) else {
+        return Err(NamingRefusal::Unfit);
+    };
+    let Renamed { controller, naming } = controller.name(kind);
+    naming?;
+    put(save(controller), state);
+    Ok(())
+}
+
 // What became of a name.
-fn named(naming: Naming) -> u32
+fn named(naming: Result<(), NamingRefusal>) -> u32
     ensures { result ≡ named_as naming }
 {
-    both(naming.refusal(), 0)
+    match naming {
+        Ok(()) => both(0, 0),
+        Err(refusal) => both(refusal.number(), 0),
+    }
 }
 
 // Names a kind, 1 the first and 2 the second, for the RESETs to come. Answers the refusal.
-#[tactic(auto, using(bus::proofs::Cases::found, image::proofs::Whole::no_image, image::proofs::Whole::is_image_lem, image::proofs::Whole::image_whole, image::proofs::RoundTrip::parts, image::proofs::RoundTrip::saved_length, crate::proofs::Named::names_nothing, crate::proofs::Named::names, crate::proofs::Named::names_refused))]
 pub fn dock_name_kind(state: &mut [u8], kind: u8) -> u32
     ensures value { result ≡ named_as (naming_in state.old kind) }
     ensures state_after { state.new ≡ named_in state.old kind }
 {
-    let loaded = load(&*state);
-    let verdict = loaded.verdict;
-    let Verdict::Whole = verdict else {
-        return named(Naming::Unfit);
-    };
-    let renamed = loaded.controller.name(kind);
-    let naming = renamed.naming;
-    let Naming::Stored = naming else {
-        return named(naming);
-    };
-    put(save(renamed.controller), state);
-    named(naming)
-}
-
-// What a question answered.
-fn answered(answer: Told) -> u32
-    ensures { result ≡ told_as answer }
-{
-    both(answer.refusal(), answer.value())
+    named(name(state, kind))
 }
 
 // One register's reading, outside the bus.
-#[tactic(auto, using(bus::proofs::Cases::found, image::proofs::Whole::no_image, image::proofs::Whole::is_image_lem), unfolding(crate::specs::Held::reading_in))]
+#[tactic(auto, unfolding(image::specs::Load::state_of, crate::specs::Held::reading_in))]
 pub fn dock_reading(state: &[u8], address: u8) -> u32
     ensures { result ≡ told_as (reading_in state.now address) }
 {
-    let loaded = load(state);
-    let verdict = loaded.verdict;
-    let Verdict::Whole = verdict else {
-        return both(UNFIT, 0);
-    };
-    answered(loaded.controller.reading(address))
+    told(state_of(state).map_or(
+        Err(Refusal::Unfit),
+        |controller| controller.reading(address),
+    ))
 }
 
 // The nine outputs.
-#[tactic(auto, using(bus::proofs::Cases::found, image::proofs::Whole::no_image, image::proofs::Whole::is_image_lem), unfolding(crate::specs::Held::outputs_in))]
+#[tactic(auto, unfolding(image::specs::Load::state_of, crate::specs::Held::outputs_in))]
 pub fn dock_outputs(state: &[u8]) -> u32
     ensures { result ≡ told_as (outputs_in state.now) }
 {
-    let loaded = load(state);
-    let verdict = loaded.verdict;
-    let Verdict::Whole = verdict else {
-        return both(UNFIT, 0);
-    };
-    answered(loaded.controller.outputs())
-}
-
-// What the question for the byte held answered.
-fn told(held: HeldByte) -> u32
-    ensures { result ≡ held_as held }
-{
-    both(held.refusal(), held.value())
+    told(state_of(state).map_or(Err(Refusal::Unfit), |controller| controller.outputs()))
 }
 
 // The byte that an open read holds, with bit 8 of the value set, or that none is: 0.
-#[tactic(auto, using(bus::proofs::Cases::found, image::proofs::Whole::no_image, image::proofs::Whole::is_image_lem), unfolding(crate::specs::Held::held_in))]
+#[tactic(auto, unfolding(crate::specs::Held::loaded_in, crate::specs::Held::held_in))]
 pub fn dock_held_byte(state: &[u8]) -> u32
     ensures { result ≡ held_as (held_in state.now) }
 {
-    let loaded = load(state);
-    let verdict = loaded.verdict;
-    let Verdict::Whole = verdict else {
-        return told(HeldByte::Unfit);
-    };
-    told(loaded.controller.held())
+    told(
+        held(state)
+            .and_then(|controller| controller.held())
+            .map(|byte| held_value(byte)),
+    )
 }

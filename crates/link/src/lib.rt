@@ -5,26 +5,9 @@
 mod answer;
 pub mod events;
 pub mod held;
+mod images;
 pub mod lists;
 pub mod queues;
 pub mod replay;
 pub mod version;
 pub mod wires;
-
-use chassis::Seen;
-use event::Event;
-
-// What three numbers mean.
-#[derive(Clone, Copy)]
-enum Meant {
-    This(Event),
-    NoEvent,
-}
-
-// What has been seen of a list of images.
-#[derive(Clone, Copy)]
-struct Looked {
-    seen: Seen,
-    // Each part is an image.
-    whole: bool,
-}

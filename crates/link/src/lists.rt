@@ -3,28 +3,17 @@ ghost use Rattle.std.specs.Prelude.{◌≡◌, true, ◌*◌, ◌+◌, ◌≤◌
 ghost use Rattle.chassis.specs.Judge.{MOST};
 ghost use Rattle.image.specs.Layout.{BYTES};
 ghost use Rattle.chassis.specs.Passing.{passed_of};
-ghost use Rattle.image.specs.Load.{whole, is_image, state_in, load_of};
+ghost use Rattle.image.specs.Load.{is_image, state_in, state_of};
 ghost use Rattle.image.specs.Save.{saved};
-ghost use Rattle.link.specs.Lists.{parts_of, all_images, count_in, Looks, round_in, passed_in, refused_with, told_in, list_in, output_sets, chassis_as};
+ghost use Rattle.link.specs.Lists.{parts_of, all_images, count_in, seen_in, round_in, passed_in, refused_with, told_in, list_in, output_sets, chassis_as};
 
-use crate::Looked;
 use crate::answer::value;
 use crate::held::{dock_outputs, dock_step};
 use batch::answer_in;
 use bus::Reply;
-use chassis::{Answer, Errand, MOST, Refusal, Round, Seen, Told};
-use image::load::load;
-use image::{Loaded, Verdict};
-
-#[tactic(auto, using(bus::proofs::Cases::found, image::proofs::Whole::not_whole))]
-fn is_whole(verdict: Verdict) -> bool
-    ensures { result ≡ whole verdict }
-{
-    match verdict {
-        Verdict::Whole => true,
-        _ => false,
-    }
-}
+use chassis::{Errand, MOST, Refusal, Round, Seen, Told};
+use dock::{Controller, outputs_of, reply_in};
+use image::load::state_of;
 
 // The bytes of more images than one.
 const TWO: usize = 2 * image::BYTES;
@@ -33,56 +22,50 @@ const THREE: usize = 3 * image::BYTES;
 
 const FOUR: usize = 4 * image::BYTES;
 
-// How many images so many bytes are, 0 where they are not those of one to four. They are compared and not divided: a small processor would need a
+// How many images so many bytes are, where they are those of one to four. They are compared and not divided: a small processor would need a
 // function for a division of 64 bits, and the library links alone.
 #[tactic(auto, using(crate::proofs::RanList::none_of_four))]
-fn images_in(bytes: usize) -> usize
+fn images_in(bytes: usize) -> Option<usize>
     ensures { result ≡ count_in bytes }
 {
     if bytes == image::BYTES {
-        return 1;
+        return Some(1);
     }
     if bytes == TWO {
-        return 2;
+        return Some(2);
     }
     if bytes == THREE {
-        return 3;
+        return Some(3);
     }
     if bytes == FOUR {
-        return 4;
+        return Some(4);
     }
-    0
+    None
 }
 
 // The part at a place.
-fn load_at(states: &[u8], place: usize) -> Loaded
+fn state_at(states: &[u8], place: usize) -> Option<Controller>
     requires place_bound { place ≤ 3 }
     requires place_in_bounds { (place + 1) * BYTES ≤ length states.now }
-    ensures { result ≡ load_of (take BYTES (drop (place * BYTES) states.now)) }
+    ensures { result ≡ state_of (take BYTES (drop (place * BYTES) states.now)) }
 {
     let start = place * image::BYTES;
     let end = start + image::BYTES;
-    load(&states[start..end])
+    state_of(&states[start..end])
 }
 
-// Every part is looked at, whether it is an image or not.
-fn look(states: &[u8], count: usize) -> Looked
+// The parts as they stand on the bus, where each is an image. By index: an iterator over parts answers a reference in an Option, which has another layout
+// on a processor of 32 bits than the library's module says.
+fn look(states: &[u8], count: usize) -> Option<Seen>
     requires count_bound { count ≤ MOST }
     requires states_len { length states.now ≡ count * BYTES }
-    ensures { Looks states.now count result }
+    ensures { result ≡ seen_in states.now count }
 {
     let mut seen = Seen::begun();
-    let mut whole = true;
-    let mut i = 0;
-    while i < count {
-        let loaded = load_at(states, i);
-        let controller = loaded.controller;
-        let verdict = loaded.verdict;
-        seen = seen.with(controller);
-        whole = whole & is_whole(verdict);
-        i += 1;
+    for i in 0..count {
+        seen = seen.with(state_at(states, i)?);
     }
-    Looked { seen, whole }
+    Some(seen)
 }
 
 // An image is passed: where the event reaches it, by the call on one state, whose record tells what it says on the bus.
@@ -94,7 +77,7 @@ fn pass_part(part: &mut [u8], round: Round, errand: Errand) -> Round
 {
     if errand.reaches(round.place) {
         let answer = answer_in(dock_step(part, errand.word));
-        return round.gathered(answer.said(), answer.outputs());
+        return round.gathered(reply_in(answer), outputs_of(answer));
     }
     round.gathered(Reply::Nothing, value(dock_outputs(&*part)))
 }
@@ -108,12 +91,10 @@ fn pass(states: &mut [u8], places: usize, errand: Errand) -> Round
     ensures states_after { states.new ≡ passed_in states.old places errand }
 {
     let mut round = errand.set_out();
-    let mut i = 0;
-    while i < places {
+    for i in 0..places {
         let start = i * image::BYTES;
         let end = start + image::BYTES;
         round = pass_part(&mut states[start..end], round, errand);
-        i += 1;
     }
     round
 }
@@ -122,7 +103,7 @@ fn refused(refusal: Refusal) -> Told
     ensures { result ≡ refused_with refusal }
 {
     Told {
-        answer: Answer::Refused(refusal),
+        answer: Err(refusal),
         outputs: [0; MOST],
     }
 }
@@ -133,15 +114,12 @@ fn run(states: &mut [u8], named: usize, word: u16) -> Told
     ensures value { result ≡ told_in states.old named word }
     ensures states_after { states.new ≡ list_in states.old named word }
 {
-    let count = images_in(states.len());
-    if count == 0 {
+    let Some(count) = images_in(states.len()) else {
         return refused(Refusal::WrongLength);
-    }
-    let looked = look(&*states, count);
-    if !looked.whole {
+    };
+    let Some(seen) = look(&*states, count) else {
         return refused(Refusal::Unfit);
-    }
-    let seen = looked.seen;
+    };
     let errand = seen.errand(count, named, word);
     let round = pass(states, errand.places(count), errand);
     errand.told(round)
@@ -163,14 +141,12 @@ fn output_sets(first: u16, second: u16, third: u16, fourth: u16) -> u64
 fn number(told: Told) -> u64
     ensures { result ≡ chassis_as told }
 {
-    let answer = told.answer;
-    let outputs = told.outputs;
-    let refusal = answer.refusal();
-    let reply = answer.reply();
-    let byte = answer.byte();
-    let head = (refusal as u64 * 8 + reply as u64) * 256 + byte as u64;
-    let sets = output_sets(outputs[0], outputs[1], outputs[2], outputs[3]);
-    head * 0x2_0000_0000_0000 + sets
+    let head = match told.answer {
+        Ok(reply) => reply.number() as u64 * 256 + reply.byte() as u64,
+        Err(refusal) => refusal.number() as u64 * 2048,
+    };
+    let [first, second, third, fourth] = told.outputs;
+    head * 0x2_0000_0000_0000 + output_sets(first, second, third, fourth)
 }
 
 // One event for one to four states on one bus; PINS and RESET are for the one that is named, counted from 0.

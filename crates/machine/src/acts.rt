@@ -1,15 +1,13 @@
 // What each act does to a machine (document 01; document 03, "Naming the kind" and "Registers").
-ghost use Rattle.std.specs.Prelude.{◌≡◌, Bool, cond, true, ℕ};
-ghost use Rattle.bay.specs.Debounce.{sampled_bay};
-ghost use Rattle.bay.specs.Moves.{ticked_bay, moved_bay};
+ghost use Rattle.std.specs.Prelude.{◌≡◌, Bool, true, ℕ, [], ◌∷◌};
+ghost use Rattle.bay.specs.Moves.{ticked_bay};
 ghost use Rattle.bay.specs.declared.Setting.{Setting};
 ghost use Rattle.machine.specs.Record.{bay_in};
-ghost use Rattle.machine.specs.Acts.{lock_after_reset, letr_after_reset, count_after_reset, reset_to, name_to, pins_to, next_phase, restful, acted};
+ghost use Rattle.machine.specs.Acts.{lock_after_reset, letr_after_reset, count_after_reset, reset_to, name_to, pins_to, next_phase, ticked_at, restful, acted};
 
-use crate::record::is_open;
 use crate::setting::is_lit;
 use crate::{Act, Acted, Machine, Shared};
-use bay::{Bay, Inputs};
+use bay::Bay;
 use bits::straps::{lock_def, lock_mode};
 use kind::Kind;
 
@@ -56,28 +54,11 @@ fn count_after_reset(kind: Kind) -> u8
     }
 }
 
-// A bay after a pin sample, with its four levels. A closed bay is passed by.
-fn sampled(open: bool, bay: Bay, levels: u8) -> Bay
-    ensures { result ≡ cond «open» (sampled_bay levels bay) bay }
-{
-    if open { bay.sampled(levels) } else { bay }
-}
-
-// A bay after a tick, with its inputs. A closed bay is passed by.
-fn moved(open: bool, hides: bool, bay: Bay, ticks: u16, inputs: Inputs) -> Bay
-    ensures { result ≡ cond «open» (moved_bay hides ticks bay inputs.n1394 inputs.nusb inputs.nremreq) bay }
-{
-    if open {
-        bay.moved(hides, ticks, inputs)
-    } else {
-        bay
-    }
-}
-
 // A tick finds nothing to do in either bay, and leaves both as they are.
 #[tactic(auto, unfolding(crate::specs::Acts::restful, crate::specs::Record::bay_in))]
 fn rest(bays: [Bay; 2]) -> bool
     ensures value { result ≡ restful bays }
+    ensures two { bays ≡ bay_in bays 0 ∷ bay_in bays 1 ∷ [] }
     ensures i_value { result ≡ true → (hides : Bool) (s : Setting) (i : ℕ) → ticked_bay hides s (bay_in bays i) ≡ bay_in bays i }
 {
     bays[0].rests() & bays[1].rests()
@@ -111,95 +92,62 @@ impl Machine {
     pub fn name(self, kind: Kind) -> Machine
         ensures { result ≡ name_to kind self }
     {
-        let in_force = self.kind;
-        let shared = self.shared;
-        let second = self.second;
-        let bays = self.bays;
         Machine {
-            started: self.started,
-            straps: self.straps,
-            kind: in_force,
             named: kind,
-            shared,
-            second,
-            phase: self.phase,
-            bays,
+            ..self
         }
     }
 
+    // A closed bay is passed by.
     #[tactic(auto, unfolding(crate::specs::Acts::pins_to, crate::specs::Acts::sampled_at, crate::specs::Record::bay_in, crate::specs::Record::open_by))]
     fn pins(self, levels: u8) -> Machine
         ensures { result ≡ pins_to levels self }
     {
-        let kind = self.kind;
-        let named = self.named;
-        let shared = self.shared;
-        let second = self.second;
-        let bays = self.bays;
+        let other = if self.shared.is_open(1) {
+            self.bays[1].sampled(levels % 16)
+        } else {
+            self.bays[1]
+        };
         Machine {
-            started: self.started,
-            straps: self.straps,
-            kind,
-            named,
-            shared,
-            second,
-            phase: self.phase,
-            bays: [
-                bays[0].sampled(levels / 16),
-                sampled(is_open(self.shared.bay_count, 1), bays[1], levels % 16),
-            ],
+            bays: [self.bays[0].sampled(levels / 16), other],
+            ..self
         }
     }
 
-    // Where both bays rest, as in most ticks, only the phase moves. Else the inputs of both come first, and then the record.
-    #[tactic(auto, unfolding(crate::specs::Acts::does, crate::specs::Acts::keeps, crate::specs::Acts::tick_to, crate::specs::Record::bay_in, crate::specs::Acts::ticked_at, bay::specs::Moves::ticked_bay, crate::specs::Record::open_by))]
+    // Both bays after a tick: the inputs of both come first, and then the record; a closed bay is passed by.
+    #[tactic(auto, unfolding(crate::specs::Record::bay_in, crate::specs::Acts::ticked_at, bay::specs::Moves::ticked_bay, crate::specs::Record::open_by))]
+    fn ticked(self) -> [Bay; 2]
+        ensures { result ≡ ticked_at self 0 ∷ ticked_at self 1 ∷ [] }
+    {
+        let hides = self.hides();
+        let ticks = self.setting().wait_ticks;
+        let inputs = self.bays[0].inputs();
+        let other_inputs = self.bays[1].inputs();
+        let other = if self.shared.is_open(1) {
+            self.bays[1].moved(hides, ticks, other_inputs)
+        } else {
+            self.bays[1]
+        };
+        [self.bays[0].moved(hides, ticks, inputs), other]
+    }
+
+    // Where both bays rest, as in most ticks, only the phase moves, and nothing is paid for the bays that `ticked` makes.
+    #[tactic(auto, unfolding(crate::specs::Acts::does, crate::specs::Acts::keeps, crate::specs::Acts::tick_to))]
     fn tick(self) -> Acted
         ensures { result ≡ acted Act.Tick self }
     {
-        let kind = self.kind;
-        let named = self.named;
-        let shared = self.shared;
-        let second = self.second;
-        let bays = self.bays;
         let phase = next_phase(self.phase);
-        if rest(bays) {
+        if rest(self.bays) {
             return Acted {
-                machine: Machine {
-                    started: self.started,
-                    straps: self.straps,
-                    kind,
-                    named,
-                    shared,
-                    second,
-                    phase,
-                    bays: [bays[0], bays[1]],
-                },
-                keeps: is_lit(kind, self.phase) == is_lit(kind, phase),
+                machine: Machine { phase, ..self },
+                keeps: is_lit(self.kind, self.phase) == is_lit(self.kind, phase),
             };
         }
-        let hides = self.hides();
-        let ticks = self.setting().wait_ticks;
-        let first = bays[0].inputs();
-        let other = bays[1].inputs();
         Acted {
             machine: Machine {
-                started: self.started,
-                straps: self.straps,
-                kind,
-                named,
-                shared,
-                second,
                 phase,
-                bays: [
-                    bays[0].moved(hides, ticks, first),
-                    moved(
-                        is_open(self.shared.bay_count, 1),
-                        hides,
-                        bays[1],
-                        ticks,
-                        other,
-                    ),
-                ],
+                bays: self.ticked(),
+                ..self
             },
             keeps: false,
         }

@@ -54,25 +54,12 @@ impl Machine {
     fn with_letr(self, value: u8) -> Machine
         ensures { result ≡ letr_write value self }
     {
-        let kind = self.kind;
-        let named = self.named;
-        let bays = self.bays;
-        let second = self.second;
         Machine {
-            started: self.started,
-            straps: self.straps,
-            kind,
-            named,
             shared: Shared {
-                wait_time: self.shared.wait_time,
-                bay_count: self.shared.bay_count,
-                dbccr_written: self.shared.dbccr_written,
                 lock_time: value % 4,
-                seclock: self.shared.seclock,
+                ..self.shared
             },
-            second,
-            phase: self.phase,
-            bays,
+            ..self
         }
     }
 
@@ -80,25 +67,12 @@ impl Machine {
     fn with_wait(self, value: u8) -> Machine
         ensures { result ≡ wait_write value self }
     {
-        let kind = self.kind;
-        let named = self.named;
-        let bays = self.bays;
-        let second = self.second;
         Machine {
-            started: self.started,
-            straps: self.straps,
-            kind,
-            named,
             shared: Shared {
                 wait_time: value,
-                bay_count: self.shared.bay_count,
-                dbccr_written: self.shared.dbccr_written,
-                lock_time: self.shared.lock_time,
-                seclock: self.shared.seclock,
+                ..self.shared
             },
-            second,
-            phase: self.phase,
-            bays,
+            ..self
         }
     }
 

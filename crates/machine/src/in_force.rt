@@ -10,8 +10,7 @@ impl Machine {
     fn register(self, address: u8) -> u8
         ensures { result ≡ register self address }
     {
-        let kind = self.kind;
-        match kind {
+        match self.kind {
             Kind::First => self.first_register(address),
             Kind::Second => self.second_register(address),
         }
@@ -34,8 +33,7 @@ impl Machine {
     pub(crate) fn write(self, address: u8, value: u8) -> Machine
         ensures { result ≡ written address value self }
     {
-        let kind = self.kind;
-        match kind {
+        match self.kind {
             Kind::First => self.first_write(address, value),
             Kind::Second => self.second_write(address, value),
         }

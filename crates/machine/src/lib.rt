@@ -17,7 +17,7 @@ use second::Second;
 pub use setting::pulse_ticks;
 
 // A machine. Any value of any field may come in; `fit` tells the ones that the rules can make.
-#[derive(Clone, Copy)]
+#[derive(Clone, Copy, PartialEq, Eq)]
 pub struct Machine {
     // A RESET has come.
     pub started: bool,
@@ -36,7 +36,7 @@ pub struct Machine {
 
 // The registers that the bays share: DBCCR, which both kinds have, and the first kind's LETR and 42h. The order of the fields
 // is one in which the compiler copies them one by one (docs/DECISIONS.md).
-#[derive(Clone, Copy)]
+#[derive(Clone, Copy, PartialEq, Eq)]
 pub struct Shared {
     // 42h: for how many ticks a device seats before its bay is Inserted.
     pub wait_time: u8,
@@ -49,7 +49,7 @@ pub struct Shared {
 }
 
 // What a machine does, each at once.
-#[derive(Clone, Copy)]
+#[derive(Clone, Copy, PartialEq, Eq)]
 pub enum Act {
     // A whole write.
     Write {
@@ -72,7 +72,7 @@ pub enum Act {
 }
 
 // A machine after an act.
-#[derive(Clone, Copy)]
+#[derive(Clone, Copy, PartialEq, Eq)]
 pub struct Acted {
     pub machine: Machine,
     // The act is one that leaves the outputs as they were.

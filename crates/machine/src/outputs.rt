@@ -1,30 +1,10 @@
 // The nine outputs (document 01, "Replies and refusal numbers" and "Bay moves").
-ghost use Rattle.std.specs.Prelude.{◌≡◌, cond, ◌&&◌};
-ghost use Rattle.bay.specs.Outputs.{bay_outputs, interrupts};
+ghost use Rattle.std.specs.Prelude.{◌≡◌};
 ghost use Rattle.machine.specs.Outputs.{outputs};
 
 use crate::Machine;
-use crate::record::is_open;
 use crate::setting::is_lit;
-use bay::{Bay, Setting};
-
-// Power, lock pin, green and yellow of a bay; 0 of a closed one.
-fn nibble(open: bool, bay: Bay, hides: bool, setting: Setting, lit: bool) -> u8
-    ensures { result ≡ cond «open» (bay_outputs hides setting lit bay) 0 }
-{
-    if open {
-        bay.outputs(hides, setting, lit)
-    } else {
-        0
-    }
-}
-
-// An open bay asks for the host.
-fn wants(open: bool, bay: Bay) -> bool
-    ensures { result ≡ («open» && interrupts bay) }
-{
-    open & bay.interrupt()
-}
+use bits::put;
 
 impl Machine {
     // Bit 8 to 0: bay 0's power, lock pin, green, yellow, the same for bay 1, interrupt asserted.
@@ -35,18 +15,17 @@ impl Machine {
         if !self.started {
             return 0;
         }
-        let kind = self.kind;
-        let bays = self.bays;
-        let open = is_open(self.shared.bay_count, 1);
+        let open = self.shared.is_open(1);
         let hides = self.hides();
         let setting = self.setting();
-        let lit = is_lit(kind, self.phase);
-        let both = bays[0].outputs(hides, setting, lit) as u16 * 32
-            + nibble(open, bays[1], hides, setting, lit) as u16 * 2;
-        if bays[0].interrupt() | wants(open, bays[1]) {
-            both + 1
+        let lit = is_lit(self.kind, self.phase);
+        let first = self.bays[0].outputs(hides, setting, lit);
+        let other = if open {
+            self.bays[1].outputs(hides, setting, lit)
         } else {
-            both
-        }
+            0
+        };
+        let wanted = self.bays[0].interrupt() | (open & self.bays[1].interrupt());
+        first as u16 * 32 + other as u16 * 2 + put(wanted, 1) as u16
     }
 }

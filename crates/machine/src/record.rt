@@ -1,6 +1,6 @@
 // The machine's record: fresh, fit, and its bays by number.
 ghost use Rattle.std.specs.Prelude.{◌≡◌};
-ghost use Rattle.machine.specs.Record.{unwritten, fresh_machine, most_pulse, most_wait, shared_fit, fits, bay_in, open_by};
+ghost use Rattle.machine.specs.Record.{unwritten, fresh_machine, most_pulse, most_wait, shared_fit, fits, bay_at, open_by};
 
 use crate::{Machine, Shared};
 use bay::Bay;
@@ -22,7 +22,7 @@ impl Machine {
             shared: Shared::unwritten(0, 0),
             second: Second::fresh(),
             phase: 0,
-            bays: [Bay::empty(), Bay::empty()],
+            bays: [Bay::empty(); 2],
         }
     }
 
@@ -31,16 +31,22 @@ impl Machine {
     pub fn fit(self) -> bool
         ensures { result ≡ fits self }
     {
-        let bays = self.bays;
-        let kind = self.kind;
-        let pulse = most_pulse(kind);
-        let wait = most_wait(kind);
+        let pulse = most_pulse(self.kind);
+        let wait = most_wait(self.kind);
         (self.phase < Machine::PHASES)
             & (self.straps <= straps::MOST)
             & self.shared.fit()
             & self.second.fit()
-            & bays[0].fit(pulse, wait)
-            & bays[1].fit(pulse, wait)
+            & self.bays[0].fit(pulse, wait)
+            & self.bays[1].fit(pulse, wait)
+    }
+
+    // Bay 0, or else bay 1.
+    #[tactic(auto, unfolding(crate::specs::Record::bay_in))]
+    pub(crate) fn bay(self, i: u8) -> Bay
+        ensures { result ≡ bay_at self i }
+    {
+        if i == 0 { self.bays[0] } else { self.bays[1] }
     }
 }
 
@@ -58,27 +64,19 @@ impl Shared {
         }
     }
 
+    // Bay 0 is always open, bay 1 unless the stored count is 1.
+    #[tactic(auto, unfolding(crate::specs::Record::open_by))]
+    pub(crate) fn is_open(self, i: u8) -> bool
+        ensures { result ≡ open_by self.bay_count i }
+    {
+        (i == 0) | (self.bay_count != Shared::ONE_BAY)
+    }
+
     fn fit(self) -> bool
         ensures { result ≡ shared_fit self }
     {
         (self.lock_time <= Shared::MOST_LOCK_TIME) & (self.bay_count <= Shared::MOST_BAYS)
     }
-}
-
-// Bay 0, or else bay 1.
-#[tactic(auto, unfolding(crate::specs::Record::bay_in))]
-pub(crate) fn bay_in(bays: [Bay; 2], i: u8) -> Bay
-    ensures { result ≡ bay_in bays i }
-{
-    if i == 0 { bays[0] } else { bays[1] }
-}
-
-// Bay 0 is always open, bay 1 unless the stored count is 1.
-#[tactic(auto, unfolding(crate::specs::Record::open_by))]
-pub(crate) fn is_open(bay_count: u8, i: u8) -> bool
-    ensures { result ≡ open_by bay_count i }
-{
-    (i == 0) | !(bay_count == Shared::ONE_BAY)
 }
 
 // The longest pulse and the longest wait of a kind, in ticks.

@@ -1,12 +1,9 @@
 // The second kind's register map (document 03, "Registers"): its registers have four bytes, or two, lowest byte first, and are
 // read and written byte by byte.
 ghost use Rattle.std.specs.Prelude.{◌≡◌, cond, ◌%◌, eqb};
-ghost use Rattle.machine.specs.SecondKind.{subsystem_at, form_factor_at, second_register, with_second, subsystem_write, form_factor_write, sfr_write, second_written};
+ghost use Rattle.machine.specs.SecondKind.{subsystem_at, form_factor_at, second_register, subsystem_write, form_factor_write, sfr_write, second_written};
 
 use crate::Machine;
-use crate::record::is_open;
-use bay::Bay;
-use second::Second;
 
 // The addresses of the registers; those of a bay's are for bay 0 and for bay 1.
 pub const VENDOR_LOW: u8 = 0x00;
@@ -62,12 +59,11 @@ impl Machine {
     fn subsystem(self, k: u8) -> u8
         ensures { result ≡ subsystem_at self k }
     {
-        let bytes = self.second.subsystem;
         match k {
-            0 => whole(bytes[0]),
-            1 => whole(bytes[1]),
-            2 => whole(bytes[2]),
-            3 => whole(bytes[3]),
+            0 => whole(self.second.subsystem[0]),
+            1 => whole(self.second.subsystem[1]),
+            2 => whole(self.second.subsystem[2]),
+            3 => whole(self.second.subsystem[3]),
             _ => 0,
         }
     }
@@ -77,14 +73,13 @@ impl Machine {
     fn form_factor(self, i: u8) -> u8
         ensures { result ≡ form_factor_at self i }
     {
-        if !is_open(self.shared.bay_count, i) {
+        if !self.shared.is_open(i) {
             return 0;
         }
-        let factors = self.second.form_factors;
         if i == 0 {
-            factors[0] % 8
+            self.second.form_factors[0] % 8
         } else {
-            factors[1] % 8
+            self.second.form_factors[1] % 8
         }
     }
 
@@ -96,10 +91,7 @@ impl Machine {
             VENDOR_LOW => 0x60,
             VENDOR_HIGH => 0x12,
             REVISION => 0x01,
-            SUBSYSTEM_0 => self.subsystem(0),
-            SUBSYSTEM_1 => self.subsystem(1),
-            SUBSYSTEM_2 => self.subsystem(2),
-            SUBSYSTEM_3 => self.subsystem(3),
+            SUBSYSTEM_0..=SUBSYSTEM_3 => self.subsystem(address - SUBSYSTEM_0),
             DBCCR => self.dbccr(),
             BCER_0 | BCER_1 => self.bcer(bay_of(address, BCER_1)),
             BSTR_0 | BSTR_1 => self.bstr(bay_of(address, BSTR_1)),
@@ -109,31 +101,14 @@ impl Machine {
         }
     }
 
-    // The machine with these registers of the second kind's own, and these bays.
-    fn with_second(self, second: Second, bays: [Bay; 2]) -> Machine
-        ensures { result ≡ with_second second bays self }
-    {
-        let kind = self.kind;
-        let named = self.named;
-        let shared = self.shared;
-        Machine {
-            started: self.started,
-            straps: self.straps,
-            kind,
-            named,
-            shared,
-            second,
-            phase: self.phase,
-            bays,
-        }
-    }
-
     #[tactic(auto, unfolding(crate::specs::SecondKind::subsystem_write))]
     fn with_subsystem(self, k: u8, value: u8) -> Machine
         ensures { result ≡ subsystem_write k value self }
     {
-        let bays = self.bays;
-        self.with_second(self.second.with_subsystem(k, value), bays)
+        Machine {
+            second: self.second.with_subsystem(k, value),
+            ..self
+        }
     }
 
     // That of a closed bay takes no write, which doesn't count as one.
@@ -141,11 +116,13 @@ impl Machine {
     fn with_form_factor(self, i: u8, value: u8) -> Machine
         ensures { result ≡ form_factor_write i value self }
     {
-        if !is_open(self.shared.bay_count, i) {
+        if !self.shared.is_open(i) {
             return self;
         }
-        let bays = self.bays;
-        self.with_second(self.second.with_form_factor(i, value), bays)
+        Machine {
+            second: self.second.with_form_factor(i, value),
+            ..self
+        }
     }
 
     // The first write opens the locks of both bays, and power goes with them; no other counts.
@@ -156,11 +133,11 @@ impl Machine {
         if self.second.sfr_written {
             return self;
         }
-        let bays = self.bays;
-        self.with_second(
-            self.second.with_sfr(value),
-            [bays[0].unlocked(), bays[1].unlocked()],
-        )
+        Machine {
+            second: self.second.with_sfr(value),
+            bays: self.bays.map(|bay| bay.unlocked()),
+            ..self
+        }
     }
 
     #[tactic(auto, unfolding(crate::specs::SecondKind::second_written, crate::specs::SecondKind::second_writes))]
@@ -168,10 +145,7 @@ impl Machine {
         ensures { result ≡ second_written address value self }
     {
         match address {
-            SUBSYSTEM_0 => self.with_subsystem(0, value),
-            SUBSYSTEM_1 => self.with_subsystem(1, value),
-            SUBSYSTEM_2 => self.with_subsystem(2, value),
-            SUBSYSTEM_3 => self.with_subsystem(3, value),
+            SUBSYSTEM_0..=SUBSYSTEM_3 => self.with_subsystem(address - SUBSYSTEM_0, value),
             DBCCR => self.with_dbccr(value),
             BCER_0 | BCER_1 => self.with_bcer(bay_of(address, BCER_1), value),
             BSTR_0 | BSTR_1 => self.with_bstr(bay_of(address, BSTR_1), value),

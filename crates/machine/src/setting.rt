@@ -51,8 +51,7 @@ impl Machine {
     pub(crate) fn hides(self) -> bool
         ensures { result ≡ hides self }
     {
-        let kind = self.kind;
-        kind.is_second()
+        self.kind.is_second()
     }
 
     // Whether the security lock shows in BSTR.
@@ -60,8 +59,7 @@ impl Machine {
     pub(crate) fn secured(self) -> bool
         ensures { result ≡ secured self }
     {
-        let kind = self.kind;
-        !kind.is_second() | self.shared.seclock
+        !self.kind.is_second() | self.shared.seclock
     }
 
     // LOCK_MODE, LETR and 42h.
@@ -94,8 +92,7 @@ impl Machine {
     pub(crate) fn setting(self) -> Setting
         ensures { result ≡ setting_of self }
     {
-        let kind = self.kind;
-        match kind {
+        match self.kind {
             Kind::First => self.first_setting(),
             Kind::Second => self.second_setting(),
         }

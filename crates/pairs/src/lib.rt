@@ -8,12 +8,12 @@ ghost use Rattle.pairs.specs.Pairs.{wide, two_bytes};
 pub fn wide(high: u8, low: u8) -> u16
     ensures { result ≡ wide high low }
 {
-    high as u16 * 256 + low as u16
+    u16::from_be_bytes([high, low])
 }
 
 // The two bytes of a number.
 pub fn two_bytes(number: u16) -> [u8; 2]
     ensures { result ≡ two_bytes number }
 {
-    [(number / 256) as u8, (number % 256) as u8]
+    number.to_be_bytes()
 }

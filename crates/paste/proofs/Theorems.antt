@@ -1,13 +1,16 @@
 -- The theorems on images as texts: what is written is read as the same bytes, and each contract determines its answer.
 -- Assumes nothing.
-use Prim.Native.Nat.{ℕ, suc, ◌+◌, ◌*◌, ◌/◌, ◌%◌, ◌<◌, ◌≤◌}
+use Prim.Native.Nat.{ℕ, suc, ◌+◌, ◌*◌, ◌/◌, ◌%◌, ◌<◌}
 use native.Mathlib.Omega.{arith}
-use mathlib.Core.Bool.{Bool, true, false, true≢false}
+use mathlib.Core.Bool.{Bool, true, false}
 use mathlib.Core.Path.{◌≡◌, refl, ap, ◌∙◌, sym}
 use mathlib.Core.List.{List, [], ◌∷◌, map}
+use Rattle.std.proofs.Common.{cond, None, Result, Ok, Err, subst}
+use Rattle.std.specs.Option.{is_some, option_map}
+use Rattle.std.specs.Result.{is_ok}
 use lib.Dec.{eqb, ltb}
 use lib.ListN.{length}
-use borrow.Author.Tests.{le-leb, eq-eqb}
+use borrow.Author.Tests.{eq-eqb}
 use denote.Ref.{Bor}
 use Rattle.hexes.specs.Digit.{digit_for}
 use Rattle.script.specs.Text.{characters}
@@ -22,38 +25,34 @@ use Rattle.image.specs.Layout.{BYTES}
 use Rattle.image.specs.Load.{first_over, progress_verdict, sized_verdict, verdict_on, state_in, load_of}
 use Rattle.image.specs.Save.{saved}
 pub use Rattle.image.specs.Shape.{Shaped, Octets}
-use Rattle.image.specs.declared.Verdict.{Verdict}
-use Rattle.image.specs.declared.Verdict.TheVariants.{Whole, WrongLength, UnknownVersion, NotAFlag, UnknownProgress, NotUsed}
+use Rattle.image.specs.declared.Flaw.{Flaw}
 use Rattle.image.proofs.RoundTrip.{saved_length, load_saved}
 use Rattle.paste.specs.Digits.{hex_of, leading_digits, bytes_of}
-use Rattle.paste.specs.Findings.{is_fit, finding_of, judged, unread, pasted_of}
-use Rattle.paste.specs.Examples.{Example, examples}
-use Rattle.paste.specs.Ranges.{lasts, first_out, out_of}
-use Rattle.paste.specs.declared.Out.{Out}
-use Rattle.paste.specs.declared.Finding.{Finding}
-use Rattle.paste.specs.declared.Finding.TheVariants.{Fit}
+use Rattle.paste.specs.Findings.{finding_of, found, judged_by, judged, unread, pasted_of}
+use Rattle.paste.specs.Examples.{Example, examples, wrong}
+use Rattle.paste.specs.Ranges.{longest, out_of}
+use Rattle.paste.specs.declared.Finding.TheVariants.{NoDigit, OddDigit, OtherLength, Unfit}
 use Rattle.paste.specs.declared.Pasted.{Pasted}
-use Rattle.paste.proofs.Finding.is_fit.Reads as is_fit_reads
+use Rattle.paste.specs.declared.Refused.{Refused}
+use Rattle.paste.proofs.Fit.{named_is_out}
 use Rattle.paste.proofs.digits.write.Reads as write_reads
 use Rattle.paste.proofs.findings.read.Reads as read_reads
 
 -- Each of the examples is what it is said to be.
-pub examples_hold : map (λ (e : Example). (pasted_of (characters e.pasted)).finding) examples ≡ map (λ (e : Example). e.finding) examples
-unfolding examples pasted_of judged finding_of unread leading_digits bytes_of digit_of lasts first_out out_of load_of verdict_on sized_verdict progress_verdict first_over state_in fits second_fits bay_in bay_fit
+pub examples_hold : map (λ (e : Example). wrong (pasted_of (characters e.pasted))) examples ≡ map (λ (e : Example). e.finding) examples
+unfolding examples pasted_of judged finding_of unread bytes_of digit_of longest out_of load_of verdict_on sized_verdict progress_verdict first_over state_in fits second_fits bay_in bay_fit
 examples_hold = refl
 
 -- ---- what is written is read as the same bytes
 
 -- A digit that was written is one.
-digit_read : (n : ℕ) → digit_of (digit_for n) ≤ 15
-digit_read n = rw (digit_back n) (omega arith)
+digit_read : (n : ℕ) → is_some (digit_of (digit_for n)) ≡ true
+digit_read n = rw (digit_back n)
 
 all_digits : (bs : List ℕ) → leading_digits (hex_of bs) ≡ length (hex_of bs)
-unfolding leading_digits hex_of
+unfolding hex_of
 all_digits [] = refl
-all_digits (b ∷ bs) =
-    rw (le-leb (digit_of (digit_for (b / 16))) 15 (digit_read (b / 16)), le-leb (digit_of (digit_for b)) 15 (digit_read b))
-    (ap (λ n. suc (suc n)) (all_digits bs))
+all_digits (b ∷ bs) = rw (digit_read (b / 16), digit_read b, all_digits bs) (omega arith)
 
 pub two_each : (bs : List ℕ) → length (hex_of bs) ≡ 2 * length bs
 unfolding hex_of
@@ -76,7 +75,7 @@ written_back bs all size =
 -- A fit state that is written is read back; each number of it is a byte, as it is in the code.
 pub state_back :
     (s : Controller) → Shaped s.machine → Octets (saved s) → fits s.machine ≡ true
-    → pasted_of (hex_of (saved s)) ≡ record { finding = Fit; bytes = saved s; controller = s }
+    → pasted_of (hex_of (saved s)) ≡ Ok (record { bytes = saved s; controller = s })
 unfolding judged finding_of
 state_back s shaped octets fit = written_back (saved s) octets (saved_length s) ∙ rw (load_saved s shaped, fit)
 
@@ -100,35 +99,30 @@ one_word (b ∷ bs) = (
 
 -- ---- what can be gone on from is fit
 
-fit_by : (v : Verdict) (fit : Bool) (out : Out) → is_fit (finding_of v fit out) ≡ true → fit ≡ true
-unfolding is_fit finding_of
-fit_by Whole true out e = refl
-fit_by Whole false out e = e
-fit_by WrongLength fit out e = absurd (true≢false (sym e))
-fit_by UnknownVersion fit out e = absurd (true≢false (sym e))
-fit_by (NotAFlag i) fit out e = absurd (true≢false (sym e))
-fit_by UnknownProgress fit out e = absurd (true≢false (sym e))
-fit_by (NotUsed i) fit out e = absurd (true≢false (sym e))
-
-judged_fit : (bs : List ℕ) → is_fit (judged bs).finding ≡ true → fits (judged bs).controller.machine ≡ true
-unfolding judged
-judged_fit bs e = fit_by (load_of bs).verdict (fits (load_of bs).controller.machine) (out_of (load_of bs).controller.machine) e
-
-pub accepted_is_fit : (t : List ℕ) → is_fit (pasted_of t).finding ≡ true → fits (pasted_of t).controller.machine ≡ true
-unfolding pasted_of unread is_fit
-accepted_is_fit t e = digits (eqb (leading_digits t) (length t)) refl
+fit_by : (bytes : List ℕ) (r : Result Controller Flaw) (p : Pasted) → judged_by bytes r ≡ Ok p → fits p.controller.machine ≡ true
+unfolding finding_of
+fit_by bytes (Ok c) p e = go (fits c.machine) refl e
   where
-    digits : (b : Bool) → eqb (leading_digits t) (length t) ≡ b → fits (pasted_of t).controller.machine ≡ true
-    digits false d = absurd (true≢false (sym (rw d at e)))
-    digits true d = pairs (eqb (length t % 2) 1) refl
-      where
-        pairs : (b : Bool) → eqb (length t % 2) 1 ≡ b → fits (pasted_of t).controller.machine ≡ true
-        pairs true p = absurd (true≢false (sym (rw (d, p) at e)))
-        pairs false p = size (eqb (length t) (2 * BYTES)) refl
-          where
-            size : (b : Bool) → eqb (length t) (2 * BYTES) ≡ b → fits (pasted_of t).controller.machine ≡ true
-            size true q = rw (d, p, q) (judged_fit (bytes_of t) (rw (d, p, q) at e))
-            size false q = absurd (true≢false (sym (rw (d, p, q) at e)))
+    go : (b : Bool) → fits c.machine ≡ b → found bytes c (cond b None (option_map Unfit (out_of c.machine))) ≡ Ok p → fits p.controller.machine ≡ true
+    go true f e = let same : record { bytes = bytes; controller = c } ≡ p = cc in subst (λ (q : Pasted). fits q.controller.machine ≡ true) same f
+    go false f e = let named = named_is_out c.machine f in let refused = rw named.1 at e in cc
+fit_by bytes (Err why) p e = cc
+
+judged_fit : (bs : List ℕ) (p : Pasted) → judged bs ≡ Ok p → fits p.controller.machine ≡ true
+unfolding judged
+judged_fit bs p e = fit_by bs (load_of bs) p e
+
+pub accepted_is_fit : (t : List ℕ) (p : Pasted) → pasted_of t ≡ Ok p → fits p.controller.machine ≡ true
+unfolding pasted_of
+accepted_is_fit t p e = digits (eqb (leading_digits t) (length t)) (eqb (length t % 2) 1) (eqb (length t) (2 * BYTES)) e
+  where
+    digits : (d o w : Bool)
+        → cond d (cond o (Err (unread (OddDigit (length t)))) (cond w (judged (bytes_of t)) (Err (unread (OtherLength (length t / 2)))))) (Err (unread (NoDigit (leading_digits t)))) ≡ Ok p
+        → fits p.controller.machine ≡ true
+    digits true false true e = judged_fit (bytes_of t) p e
+    digits false o w e = cc
+    digits true true w e = cc
+    digits true false false e = cc
 
 -- ---- the contract of each exported call, as the checker reads it, determines the call's answer
 
@@ -137,9 +131,10 @@ pub write_determined :
 write_determined κs c r s p q = p ∙ sym q
 
 pub read_determined :
-    (κs : _) (text : Bor (List ℕ)) (r s : Pasted) → read_reads.Post κs (text, tt) r (text, tt) → read_reads.Post κs (text, tt) s (text, tt) → r ≡ s
+    (κs : _) (text : Bor (List ℕ)) (r s : Result Pasted Refused) → read_reads.Post κs (text, tt) r (text, tt) → read_reads.Post κs (text, tt) s (text, tt) → r ≡ s
 read_determined κs text r s p q = p ∙ sym q
 
+-- And so whether a text can be gone on from.
 pub is_fit_determined :
-    (κs : _) (f : Finding) (r s : Bool) → is_fit_reads.Post κs (f, tt) r (f, tt) → is_fit_reads.Post κs (f, tt) s (f, tt) → r ≡ s
-is_fit_determined κs f r s p q = p ∙ sym q
+    (κs : _) (text : Bor (List ℕ)) (r s : Result Pasted Refused) → read_reads.Post κs (text, tt) r (text, tt) → read_reads.Post κs (text, tt) s (text, tt) → is_ok r ≡ is_ok s
+is_fit_determined κs text r s p q = ap is_ok (read_determined κs text r s p q)

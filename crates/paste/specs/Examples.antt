@@ -1,21 +1,45 @@
 -- Texts as a person pastes them, and what each is: images of a fresh state and of one in the middle of a write, then that one damaged, and
 -- of the second kind in the end.
-use Rattle.std.specs.Prelude.{ℕ, List, [], ◌∷◌}
+use Rattle.std.specs.Prelude.{ℕ, List, [], ◌∷◌, Option, Some, None, Result, Ok, Err}
 use Prim.Native.String.{String}
-use Rattle.image.specs.declared.Verdict.TheVariants.{UnknownVersion, NotAFlag, UnknownProgress, NotUsed}
+use Rattle.image.specs.declared.Flaw.{Flaw}
+use Rattle.image.specs.declared.Flaw.TheVariants.{UnknownVersion, NotAFlag, UnknownProgress, NotUsed}
+use Rattle.paste.specs.Ranges.{ranged}
 use Rattle.paste.specs.declared.Finding.{Finding}
-use Rattle.paste.specs.declared.Finding.TheVariants.{Fit, NoDigit, OddDigit, OtherLength, NoImage, Unfit}
+use Rattle.paste.specs.declared.Finding.TheVariants as finding
+use Rattle.paste.specs.declared.Pasted.{Pasted}
+use Rattle.paste.specs.declared.Refused.{Refused}
 
 pub record Example : Type 0 where
   pub pasted : String
-  pub finding : Finding
+  pub finding : Option Finding
+
+abbrev text : String → Option Finding → Example
+text t f = record { pasted = t; finding = f }
+
+-- What is found of a text: nothing of the image of a fit state.
+abbrev pub wrong : Result Pasted Refused → Option Finding
+wrong (Ok p) = None
+wrong (Err r) = Some r.finding
+
+abbrev Fit : Option Finding
+Fit = None
+
+abbrev NoDigit : ℕ → Option Finding
+NoDigit n = Some (finding.NoDigit n)
+
+abbrev OddDigit : ℕ → Option Finding
+OddDigit n = Some (finding.OddDigit n)
+
+abbrev OtherLength : ℕ → Option Finding
+OtherLength n = Some (finding.OtherLength n)
+
+abbrev NoImage : Flaw → Option Finding
+NoImage v = Some (finding.NoImage v)
 
 -- A number out of its range: where it begins, what it is, and the largest that is fit.
-abbrev out : ℕ → ℕ → ℕ → Finding
-out at value last = Unfit (record { at = at; value = value; last = last })
-
-abbrev text : String → Finding → Example
-text t f = record { pasted = t; finding = f }
+abbrev out : ℕ → ℕ → ℕ → Option Finding
+out at value last = Some (finding.Unfit (ranged at value last))
 
 unfoldable pub examples : List Example
 examples =

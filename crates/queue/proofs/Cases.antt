@@ -12,9 +12,9 @@ use lib.ListN.{length, get_or, length-set}
 use borrow.Author.Tests.{eq-eqb, ne_eqb}
 use Rattle.queue.specs.Record.{fits, waiting}
 use Rattle.queue.specs.Turns.{refused, place, with_word, accepts, without_oldest, gives, put_of, take_of}
-use Rattle.queue.specs.Run.{Call, put, take, call_of}
+use Rattle.queue.specs.Run.{Call, put, take, numbered, call_of}
 use Rattle.queue.specs.declared.Queue.{Queue}
-use Rattle.queue.specs.declared.Outcome.TheVariants.{Unfit, Full, Empty}
+use Rattle.queue.specs.declared.Refusal.TheVariants.{Unfit, Full, Empty}
 use Rattle.queue.proofs.Fit.{fit_parts}
 use Rattle.queue.proofs.Ring.{within, counted, one_more, first_of}
 
@@ -93,7 +93,7 @@ pub ring_kept : (q : Queue) (c : Call) → length (call_of q c).queue.words ≡ 
 unfolding put_of take_of
 ring_kept q (put w) = go (fits q) (eqb q.count 128)
   where
-    go : (f n : Bool) → length (cond f (cond n (refused Full q) (accepts q w)) (refused Unfit q)).queue.words ≡ length q.words
+    go : (f n : Bool) → length (numbered (cond f (cond n (refused Full q) (accepts q w)) (refused Unfit q))).queue.words ≡ length q.words
     go true true = refl
     go true false = length-set q.words (place q.start q.count) w
     go false n = refl

@@ -10,7 +10,7 @@ use lib.ListN.{length, length-set}
 use borrow.Author.Tests.{eqb-true, eqb-false}
 use Rattle.queue.specs.Record.{fits, waiting}
 use Rattle.queue.specs.Turns.{put_of, take_of}
-use Rattle.queue.specs.Run.{Call, put, take, call_of, after, accepted_by, taken_by, accepted, taken}
+use Rattle.queue.specs.Run.{Call, put, take, numbered, call_of, after, accepted_by, taken_by, accepted, taken}
 use Rattle.queue.specs.declared.Queue.{Queue}
 use Rattle.queue.specs.declared.Answer.{Answer}
 use Rattle.queue.proofs.Cases.{puts, takes, word_behind, oldest_first, put_fits, take_fits}
@@ -23,11 +23,11 @@ pub record Ready (q : Queue) : Type 0 where
 -- ---- one call
 
 -- The queue stays ready, and a word moves: from those accepted behind those waiting, or from these to those taken.
-record Turned (q : Queue) (c : Call) (a : Answer) : Type 0 where
+record Turned (q : Queue) (c : Call) (a : Answer ℕ) : Type 0 where
   ready : Ready a.queue
   moved : waiting q ++ accepted_by c a.outcome ≡ taken_by c a.outcome ++ waiting a.queue
 
-turn_put : (q : Queue) (w : ℕ) → Ready q → (full : Bool) → eqb q.count 128 ≡ full → Turned q (put w) (put_of q w)
+turn_put : (q : Queue) (w : ℕ) → Ready q → (full : Bool) → eqb q.count 128 ≡ full → Turned q (put w) (numbered (put_of q w))
 turn_put q w r true e = rw ((puts q w).seven r.fit (eqb-true _ 128 e)) (record { ready = r; moved = append-nil (waiting q) })
 turn_put q w r false e =
     let n : q.count ≢ 128 = eqb-false _ 128 e in

@@ -11,13 +11,14 @@ use lib.Dec.{eqb}
 use lib.ListN.{length, get_or, replicate, length-append}
 use lib.Seq.{get_or-append-add, get_or-set_other}
 use borrow.Author.Tests.{eqb-true, eqb-false, eq-eqb, ne_eqb}
+use Rattle.std.specs.Prelude.{Result, Ok, Err}
 use Rattle.queue.specs.Record.{empty_queue, fits, waiting}
 use Rattle.queue.specs.Numbers.{outcome_refusal, outcome_word}
 use Rattle.queue.specs.Turns.{accepts, gives, put_of, take_of}
-use Rattle.queue.specs.Run.{Call, put, take, call_of, after, accepted, taken}
+use Rattle.queue.specs.Run.{Call, put, take, no_word, numbered, call_of, after, accepted, taken}
 use Rattle.queue.specs.declared.Queue.{Queue}
 use Rattle.queue.specs.declared.Answer.{Answer}
-use Rattle.queue.specs.declared.Outcome.{Outcome}
+use Rattle.queue.specs.declared.Refusal.{Refusal}
 use Rattle.queue.proofs.Fit.{empty_fit, fit_parts}
 use Rattle.queue.proofs.Ring.{after_last}
 use Rattle.queue.proofs.Cases.{puts, takes, none_waits, as_counted, oldest_first}
@@ -25,8 +26,9 @@ use Rattle.queue.proofs.Moved.{Ready, stays_ready, conserved}
 use Rattle.queue.proofs.Queue.empty.Reads as empty_reads
 use Rattle.queue.proofs.Queue.put.Reads as put_reads
 use Rattle.queue.proofs.Queue.take.Reads as take_reads
-use Rattle.queue.proofs.Outcome.refusal.Reads as refusal_reads
-use Rattle.queue.proofs.Outcome.word.Reads as word_reads
+use Rattle.queue.proofs.Refusal.number.Reads as number_reads
+use Rattle.queue.proofs.numbers.number.Reads as refusal_reads
+use Rattle.queue.proofs.numbers.word.Reads as word_reads
 
 -- ---- the promise
 
@@ -36,7 +38,7 @@ pub record Kept (q : Queue) (cs : List Call) : Type 0 where
   pub in_order : taken q cs ++ waiting (after q cs) ≡ accepted q cs
   -- The next put is refused exactly when 128 of the words accepted have not been taken, and then with 7; it answers no word.
   pub next_put : (w : ℕ) → outcome_refusal (put_of (after q cs) w).outcome ≡ cond (eqb (length (accepted q cs)) (length (taken q cs) + 128)) 7 0
-  pub next_put_word : (w : ℕ) → outcome_word (put_of (after q cs) w).outcome ≡ 0
+  pub next_put_word : (w : ℕ) → outcome_word (call_of (after q cs) (put w)).outcome ≡ 0
   -- The next take is refused exactly when every word accepted has been taken, and then with 8 and word 0; else it gives the first that hasn't.
   pub next_take : outcome_refusal (take_of (after q cs)).outcome ≡ cond (eqb (length (accepted q cs)) (length (taken q cs))) 8 0
   pub next_take_word : outcome_word (take_of (after q cs)).outcome ≡ get_or (accepted q cs) (length (taken q cs)) 0
@@ -45,9 +47,14 @@ pub record Kept (q : Queue) (cs : List Call) : Type 0 where
 
 -- ---- .. by the count of the queue after them
 
-record PutAnswer (q : Queue) (a : Answer) : Type 0 where
+-- In numbers a put is refused as it is.
+pub same_refusal : (o : Result (Unit {0}) Refusal) → outcome_refusal (no_word o) ≡ outcome_refusal o
+same_refusal (Ok given) = refl
+same_refusal (Err r) = refl
+
+record PutAnswer (q : Queue) (a : Answer (Unit {0})) : Type 0 where
   refusal : outcome_refusal a.outcome ≡ cond (eqb q.count 128) 7 0
-  word : outcome_word a.outcome ≡ 0
+  word : outcome_word (numbered a).outcome ≡ 0
 
 put_answer : (q : Queue) (w : ℕ) → fits q ≡ true → PutAnswer q (put_of q w)
 put_answer q w f = go (eqb q.count 128) refl
@@ -56,7 +63,7 @@ put_answer q w f = go (eqb q.count 128) refl
     go true e = rw ((puts q w).seven f (eqb-true _ 128 e)) (record { refusal = rw e refl; word = refl })
     go false e = rw ((puts q w).none f (eqb-false _ 128 e)) (record { refusal = rw e refl; word = refl })
 
-record TakeAnswer (q : Queue) (a : Answer) : Type 0 where
+record TakeAnswer (q : Queue) (a : Answer ℕ) : Type 0 where
   refusal : outcome_refusal a.outcome ≡ cond (eqb q.count 0) 8 0
   word : outcome_word a.outcome ≡ get_or (waiting q) 0 0
 
@@ -104,14 +111,14 @@ promise q cs ring f none =
 
 -- ---- a refused call: the queue as it came, and word 0
 
-pub record Untouched (q : Queue) (a : Answer) : Type 0 where
+pub record Untouched (q : Queue) (a : Answer ℕ) : Type 0 where
   pub queue : a.queue ≡ q
   pub word : outcome_word a.outcome ≡ 0
 
 pub refused_untouched : (q : Queue) (c : Call) → outcome_refusal (call_of q c).outcome ≢ 0 → Untouched q (call_of q c)
 refused_untouched q (put w) h = go (fits q) refl (eqb q.count 128) refl h
   where
-    go : (f : Bool) → fits q ≡ f → (n : Bool) → eqb q.count 128 ≡ n → outcome_refusal (put_of q w).outcome ≢ 0 → Untouched q (put_of q w)
+    go : (f : Bool) → fits q ≡ f → (n : Bool) → eqb q.count 128 ≡ n → outcome_refusal (numbered (put_of q w)).outcome ≢ 0 → Untouched q (numbered (put_of q w))
     go false e n k h = rw ((puts q w).one e) (record { queue = refl; word = refl })
     go true e true k h = rw ((puts q w).seven e (eqb-true _ 128 k)) (record { queue = refl; word = refl })
     go true e false k h = absurd (h (rw ((puts q w).none e (eqb-false _ 128 k)) refl))
@@ -147,7 +154,7 @@ never_1 true r k l e h = omega (arith, l, e, h)
 never_1 false r k l e h = omega (arith, e, h)
 
 pub refused_with_1 : (q : Queue) (c : Call) → (outcome_refusal (call_of q c).outcome ≡ 1) ↔ (fits q ≡ false)
-refused_with_1 q (put w) = go (fits q) refl
+refused_with_1 q (put w) = rw (same_refusal (put_of q w).outcome) (go (fits q) refl)
   where
     go : (f : Bool) → fits q ≡ f → (outcome_refusal (put_of q w).outcome ≡ 1) ↔ (f ≡ false)
     go true e = (λ h. absurd (never_1 (eqb q.count 128) (outcome_refusal (put_of q w).outcome) 7 (omega arith) (put_answer q w e).refusal h), λ h. absurd (true≢false h))
@@ -193,14 +200,17 @@ from_empty cs = promise empty_queue cs (ap length begun.ring) empty_fit begun.co
 pub empty_determined : (r r' : Queue) → empty_reads.Post tt tt r tt → empty_reads.Post tt tt r' tt → r ≡ r'
 empty_determined r r' p q = p ∙ sym q
 
-pub put_determined : (s : Queue) (w : ℕ) (r r' : Answer) → put_reads.Post tt (s, (w, tt)) r (s, (w, tt)) → put_reads.Post tt (s, (w, tt)) r' (s, (w, tt)) → r ≡ r'
+pub put_determined : (s : Queue) (w : ℕ) (r r' : Answer (Unit {0})) → put_reads.Post tt (s, (w, tt)) r (s, (w, tt)) → put_reads.Post tt (s, (w, tt)) r' (s, (w, tt)) → r ≡ r'
 put_determined s w r r' p q = p ∙ sym q
 
-pub take_determined : (s : Queue) (r r' : Answer) → take_reads.Post tt (s, tt) r (s, tt) → take_reads.Post tt (s, tt) r' (s, tt) → r ≡ r'
+pub take_determined : (s : Queue) (r r' : Answer ℕ) → take_reads.Post tt (s, tt) r (s, tt) → take_reads.Post tt (s, tt) r' (s, tt) → r ≡ r'
 take_determined s r r' p q = p ∙ sym q
 
-pub refusal_determined : (o : Outcome) (r r' : ℕ) → refusal_reads.Post tt (o, tt) r (o, tt) → refusal_reads.Post tt (o, tt) r' (o, tt) → r ≡ r'
+pub refusal_determined : (o : Result ℕ Refusal) (r r' : ℕ) → refusal_reads.Post tt (o, tt) r (o, tt) → refusal_reads.Post tt (o, tt) r' (o, tt) → r ≡ r'
 refusal_determined o r r' p q = p ∙ sym q
 
-pub word_determined : (o : Outcome) (r r' : ℕ) → word_reads.Post tt (o, tt) r (o, tt) → word_reads.Post tt (o, tt) r' (o, tt) → r ≡ r'
+pub word_determined : (o : Result ℕ Refusal) (r r' : ℕ) → word_reads.Post tt (o, tt) r (o, tt) → word_reads.Post tt (o, tt) r' (o, tt) → r ≡ r'
 word_determined o r r' p q = p ∙ sym q
+
+pub number_determined : (o : Refusal) (r r' : ℕ) → number_reads.Post tt (o, tt) r (o, tt) → number_reads.Post tt (o, tt) r' (o, tt) → r ≡ r'
+number_determined o r r' p q = p ∙ sym q

@@ -1,19 +1,18 @@
 -- The paper's numbers of an answer (document 02, request 8): 1 for an unfit queue record, 7 queue full, 8 queue empty, each with word 0.
-use Rattle.std.specs.Prelude.{ℕ}
-use Rattle.queue.specs.declared.Outcome.{Outcome}
-use Rattle.queue.specs.declared.Outcome.TheVariants.{Put, Taken, Unfit, Full, Empty}
+use Rattle.std.specs.Prelude.{ℕ, Result, Ok, Err}
+use Rattle.queue.specs.declared.Refusal.{Refusal}
+use Rattle.queue.specs.declared.Refusal.TheVariants.{Unfit, Full, Empty}
 
-abbrev pub outcome_refusal : Outcome → ℕ
-outcome_refusal Put = 0
-outcome_refusal (Taken w) = 0
-outcome_refusal Unfit = 1
-outcome_refusal Full = 7
-outcome_refusal Empty = 8
+abbrev pub number_of : Refusal → ℕ
+number_of Unfit = 1
+number_of Full = 7
+number_of Empty = 8
 
--- The word taken; a put's is 0.
-abbrev pub outcome_word : Outcome → ℕ
-outcome_word Put = 0
-outcome_word (Taken w) = w
-outcome_word Unfit = 0
-outcome_word Full = 0
-outcome_word Empty = 0
+abbrev pub outcome_refusal : {T : Type 0} → Result T Refusal → ℕ
+outcome_refusal (Ok x) = 0
+outcome_refusal (Err r) = number_of r
+
+-- The word taken.
+abbrev pub outcome_word : Result ℕ Refusal → ℕ
+outcome_word (Ok w) = w
+outcome_word (Err r) = 0

@@ -6,6 +6,8 @@ mod numbers;
 mod record;
 mod turns;
 
+pub use numbers::{number, word};
+
 // So many words may wait.
 pub const PLACES: usize = 128;
 
@@ -18,12 +20,9 @@ pub struct Queue {
     pub count: u16,
 }
 
-// What became of a put or a take.
-#[derive(Clone, Copy)]
-pub enum Outcome {
-    Put,
-    // The oldest word.
-    Taken(u16),
+// Why a put or a take is refused.
+#[derive(Clone, Copy, PartialEq, Eq, Debug)]
+pub enum Refusal {
     // The record isn't fit.
     Unfit,
     // 128 words wait.
@@ -32,9 +31,9 @@ pub enum Outcome {
     Empty,
 }
 
-// What both calls answer.
+// What a call answers: the queue afterwards, and what it gave, or why it was refused.
 #[derive(Clone, Copy)]
-pub struct Answer {
+pub struct Answer<T> {
     pub queue: Queue,
-    pub outcome: Outcome,
+    pub outcome: Result<T, Refusal>,
 }

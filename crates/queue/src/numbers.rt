@@ -1,32 +1,34 @@
 // The paper's numbers of an answer.
 ghost use Rattle.std.specs.Prelude.{◌≡◌};
-ghost use Rattle.queue.specs.Numbers.{outcome_refusal, outcome_word};
+ghost use Rattle.queue.specs.Numbers.{number_of, outcome_refusal, outcome_word};
 
-use crate::Outcome;
+use crate::Refusal;
 
-impl Outcome {
-    pub fn refusal(self) -> u8
-        ensures { result ≡ outcome_refusal self }
+impl Refusal {
+    pub fn number(self) -> u8
+        ensures { result ≡ number_of self }
     {
         match self {
-            Outcome::Put => 0,
-            Outcome::Taken(_) => 0,
-            Outcome::Unfit => 1,
-            Outcome::Full => 7,
-            Outcome::Empty => 8,
+            Refusal::Unfit => 1,
+            Refusal::Full => 7,
+            Refusal::Empty => 8,
         }
     }
+}
 
-    // The word taken; 0 where none was.
-    pub fn word(self) -> u16
-        ensures { result ≡ outcome_word self }
-    {
-        match self {
-            Outcome::Put => 0,
-            Outcome::Taken(word) => word,
-            Outcome::Unfit => 0,
-            Outcome::Full => 0,
-            Outcome::Empty => 0,
-        }
+// The number of its refusal; 0 where there was none.
+pub fn number(outcome: Result<u16, Refusal>) -> u8
+    ensures { result ≡ outcome_refusal outcome }
+{
+    match outcome {
+        Ok(_) => 0,
+        Err(refusal) => refusal.number(),
     }
+}
+
+// The word taken; 0 where none was.
+pub fn word(outcome: Result<u16, Refusal>) -> u16
+    ensures { result ≡ outcome_word outcome }
+{
+    outcome.unwrap_or(0)
 }

@@ -1,6 +1,6 @@
 // The queue in which nothing waits yet, and which records are fit.
 ghost use Rattle.std.specs.Prelude.{◌≡◌};
-ghost use Rattle.queue.specs.Record.{empty_queue, in_range};
+ghost use Rattle.queue.specs.Record.{empty_queue, fits};
 
 use crate::{PLACES, Queue};
 
@@ -15,12 +15,12 @@ impl Queue {
             count: 0,
         }
     }
-}
 
-// Whether a record with this start and this count is fit. It takes the two numbers, so that no ring is copied for it.
-#[tactic(auto, unfolding(crate::specs::Record::in_range))]
-pub(crate) fn fit(start: u16, count: u16) -> bool
-    ensures { result ≡ in_range start count }
-{
-    ((start as usize) < PLACES) & (count as usize <= PLACES)
+    // Whether start and count are ones that a record may have.
+    #[tactic(auto, unfolding(crate::specs::Record::in_range))]
+    pub(crate) fn fit(&self) -> bool
+        ensures { result ≡ fits self.now }
+    {
+        (self.start as usize) < PLACES && self.count as usize <= PLACES
+    }
 }

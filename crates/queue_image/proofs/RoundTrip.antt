@@ -2,12 +2,13 @@
 use Prim.Native.Nat.{ℕ, suc, ◌<◌}
 use native.Mathlib.Omega.{arith}
 use mathlib.Core.Path.{◌≡◌, refl, sym, ap, ◌∙◌}
-use mathlib.Core.Bool.{Bool, true, false, ◌&&◌, false≢true}
+use mathlib.Core.Bool.{Bool, true, and-eq-true_iff}
 use mathlib.Core.List.{List, [], ◌∷◌}
 use lib.Dec.{eqb}
 use lib.ListN.{length, get_or, drop, length-drop}
 use borrow.Author.Tests.{eqb-true, eq-eqb}
 use denote.Ref.{Bor, MutBor}
+use Rattle.std.specs.Prelude.{Option}
 use Rattle.pairs.specs.Pairs.{bytes_of}
 use Rattle.pairs.proofs.Pairs.{word_back, high_back, low_back, bytes_length, read_again, words_length, written_again}
 use Rattle.queue.specs.declared.Queue.{Queue}
@@ -17,6 +18,7 @@ use Rattle.queue_image.proofs.save.save.Reads as save_reads
 use Rattle.queue_image.proofs.save.save_put.Reads as save_put_reads
 use Rattle.queue_image.proofs.save.save_take.Reads as save_take_reads
 use Rattle.queue_image.proofs.load.is_image.Reads as is_image_reads
+use Rattle.queue_image.proofs.load.queue_of.Reads as queue_of_reads
 use Rattle.queue_image.proofs.load.load.Reads as load_reads
 
 -- ---- an image, byte by byte
@@ -41,14 +43,10 @@ pub record Parts (bytes : List ℕ) : Type 0 where
   pub long : length bytes ≡ 261
   pub version : get_or bytes 0 0 ≡ 1
 
-both_true : (a b : Bool) → (a && b) ≡ true → (a ≡ true) × (b ≡ true)
-both_true true b h = (refl, h)
-both_true false b h = absurd (false≢true h)
-
 pub parts : (bytes : List ℕ) → is_image bytes ≡ true → Parts bytes
 unfolding is_image
 parts bytes h =
-    let p = both_true (eqb (length bytes) 261) _ h in
+    let p = (and-eq-true_iff (eqb (length bytes) 261) _).0 h in
     record { long = eqb-true _ 261 p.0; version = eqb-true _ 1 p.1 }
 
 pub ring_long : (bytes : List ℕ) → is_image bytes ≡ true → length (queue_in bytes).words ≡ 128
@@ -91,6 +89,9 @@ save_take_determined κs q image left left' p p' = p ∙ sym p'
 
 pub is_image_determined : (κs : _) (image : Bor (List ℕ)) (r r' : Bool) → is_image_reads.Post κs (image, tt) r (image, tt) → is_image_reads.Post κs (image, tt) r' (image, tt) → r ≡ r'
 is_image_determined κs image r r' p p' = p ∙ sym p'
+
+pub queue_of_determined : (κs : _) (image : Bor (List ℕ)) (r r' : Option Queue) → queue_of_reads.Post κs (image, tt) r (image, tt) → queue_of_reads.Post κs (image, tt) r' (image, tt) → r ≡ r'
+queue_of_determined κs image r r' p p' = p ∙ sym p'
 
 pub load_determined : (κs : _) (image : Bor (List ℕ)) (r r' : Queue) → load_reads.Post κs (image, tt) r (image, tt) → load_reads.Post κs (image, tt) r' (image, tt) → r ≡ r'
 load_determined κs image r r' p p' = p ∙ sym p'

@@ -1,5 +1,5 @@
 -- Any bytes as a queue: each string of as many bytes whose first is the layout's is the image of exactly one, fit or not.
-use Rattle.std.specs.Prelude.{ℕ, ◌+◌, Bool, cond, ◌&&◌, List, eqb, length, get_or, drop}
+use Rattle.std.specs.Prelude.{ℕ, ◌+◌, Bool, cond, ◌&&◌, Option, Some, None, List, eqb, length, get_or, drop}
 use Rattle.pairs.specs.Pairs.{wide, words_in}
 use Rattle.queue.specs.Record.{empty_queue}
 use Rattle.queue.specs.declared.Queue.{Queue}
@@ -14,6 +14,10 @@ number_at bytes at = wide (get_or bytes at 0) (get_or bytes (at + 1) 0)
 
 unfoldable pub queue_in : List ℕ → Queue
 queue_in bytes = record { words = words_in (drop WORDS bytes); start = number_at bytes START; count = number_at bytes COUNT }
+
+-- The queue of any bytes, where they are an image.
+unfoldable pub queue_of : List ℕ → Option Queue
+queue_of bytes = cond (is_image bytes) (Some (queue_in bytes)) None
 
 -- The queue of any bytes: an empty one where they are no image.
 unfoldable pub load_of : List ℕ → Queue

@@ -27,8 +27,7 @@ pub fn save(queue: Queue, image: &mut [u8])
     }
     image[VERSION] = LAYOUT;
     numbers(queue.start, queue.count, image);
-    let words = queue.words;
-    write(&words, &mut image[WORDS..]);
+    write(&queue.words, &mut image[WORDS..]);
 }
 
 // The place of the word that was put last.

@@ -7,14 +7,15 @@ use mathlib.Core.Path.{◌≡◌}
 use mathlib.Core.List.{List}
 use lib.ListN.{length, take, drop, length-take, length-drop, get_or-eq_default}
 use borrow.Author.Tests.{ne_eqb}
-use Rattle.script.specs.Arguments.{is_octet, octet_of, further_of, follows_at}
+use Rattle.std.proofs.Common.{None}
+use Rattle.script.specs.Arguments.{octet_of, further_of, follows_at}
 
 too_short : (t : List ℕ) (s : ℕ) → length t < s + 2 → length (take 2 (drop s t)) ≡ 2 → ⊥
 too_short t s h e = omega (arith, length-take 2 (drop s t), min-le_right 2 (length (drop s t)), length-drop s t)
 
 module _ (t : List ℕ) (n : ℕ) where
-  pub no_further : length t < 3 * n + 6 + 2 → record { good = false; value = 0 } ≡ further_of t n
-  unfolding further_of octet_of is_octet
+  pub no_further : length t < 3 * n + 6 + 2 → None ≡ further_of t n
+  unfolding further_of octet_of
   no_further h = rw (ne_eqb _ 2 (too_short t (3 * n + 6) h))
 
   pub none_follows : length t ≤ 3 * n + 5 → false ≡ follows_at t n

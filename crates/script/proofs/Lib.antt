@@ -1,4 +1,5 @@
-pub mod Passing
+pub mod Names
+pub mod Counts
 pub mod Further
 pub mod OneWord
 pub mod Theorems

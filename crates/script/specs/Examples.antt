@@ -1,12 +1,30 @@
 -- Lines as a person types them, and what each means: one of each verb, of the hand's for both bays, then lines that are blank, unknown or misused.
-use Rattle.std.specs.Prelude.{ℕ, true, false, List, [], ◌∷◌}
+use Rattle.std.specs.Prelude.{ℕ, true, false, List, [], ◌∷◌, Some, None, Ok, Err}
 use Prim.Native.String.{String}
 use Rattle.event.specs.declared.Event.TheVariants as event
+use Rattle.script.specs.Lines.{Line}
+use Rattle.script.specs.declared.Verb.{Verb}
 use Rattle.script.specs.declared.Verb.TheVariants as verb
+use Rattle.script.specs.declared.Hand.{Hand}
 use Rattle.script.specs.declared.Hand.TheVariants as hand
+use Rattle.script.specs.declared.Order.{Order}
 use Rattle.script.specs.declared.Order.TheVariants as order
-use Rattle.script.specs.declared.Line.{Line}
-use Rattle.script.specs.declared.Line.TheVariants.{Blank, Unknown, Misused, Mishandled, Does}
+use Rattle.script.specs.declared.Mistake.TheVariants as mistake
+
+abbrev Blank : Line
+Blank = Ok None
+
+abbrev Does : Order → Line
+Does o = Ok (Some o)
+
+abbrev Unknown : Line
+Unknown = Err mistake.Unknown
+
+abbrev Misused : Verb → Line
+Misused v = Err (mistake.Misused v)
+
+abbrev Mishandled : Hand → Line
+Mishandled h = Err (mistake.Mishandled h)
 
 pub record Example : Type 0 where
   pub typed : String

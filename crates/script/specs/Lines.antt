@@ -1,39 +1,38 @@
 -- What a line means: a verb, what it takes, and a comment after `#`.
-use Rattle.std.specs.Prelude.{ℕ, ◌+◌, ◌*◌, ◌-◌, ◌/◌, ◌%◌, Bool, cond, not, ◌&&◌, ◌||◌, List, length, take, eqb, ltb, leb}
+use Rattle.std.specs.Prelude.{ℕ, ◌+◌, ◌*◌, ◌-◌, ◌/◌, ◌%◌, Bool, true, false, cond, not, ◌&&◌, List, length, take, eqb, ltb, leb, Option, Some, None, option_map, option_and_then, Result, Ok, Err}
 use Prim.Native.Char.{code}
 use Rattle.event.specs.Words.{unpacked, is_reset}
 use Rattle.event.specs.declared.Event.TheVariants as event
-use Rattle.event.specs.declared.Unpacked.{Unpacked}
-use Rattle.event.specs.declared.Unpacked.TheVariants.{Accepted, StrayBit}
-use Rattle.script.specs.Text.{trimmed, first, rest, spelled64, index_of}
-use Rattle.script.specs.Verbs.{name, verb_of}
+use Rattle.script.specs.Text.{says, first, rest, only, index_of}
+use Rattle.script.specs.Verbs.{verb_of}
 use Rattle.script.specs.Arguments.{octet_of, word_of, pair_of, ticks_of, small_of, all_further}
 use Rattle.script.specs.Hands.{hand_line}
 use Rattle.script.specs.declared.Verb.{Verb}
 use Rattle.script.specs.declared.Verb.TheVariants.{Reset, Pins, Tick, Timeout, Start, Stop, Byte, Take, Word, W, R, At, Out, Regs, Help, Save, Load, Kind, Chassis, Dock}
 use Rattle.script.specs.declared.Order.{Order}
 use Rattle.script.specs.declared.Order.TheVariants.{Event, Ticks, Word as AWord, Write, Read, Address, Outputs, Registers, Help as Verbs, Save as Saving, Load as Loading, Name, Docks, Choose}
-use Rattle.script.specs.declared.Line.{Line}
-use Rattle.script.specs.declared.Line.TheVariants.{Blank, Unknown, Misused, Does}
+use Rattle.script.specs.declared.Mistake.{Mistake}
+use Rattle.script.specs.declared.Mistake.TheVariants.{Unknown, Misused, Mishandled}
 use Rattle.script.specs.declared.Named.{Named}
-use Rattle.script.specs.declared.Named.TheVariants.{This, AtBay, Nothing}
+use Rattle.script.specs.declared.Named.TheVariants.{This, AtBay}
+use Rattle.event.specs.declared.Event.{Event as AnEvent}
+use Rattle.event.specs.declared.NoEvent.{NoEvent}
 
 -- An order, where what follows its verb is what the verb takes.
-unfoldable pub given : Verb → Bool → Order → Line
-given v good o = cond good (Does o) (Misused v)
+abbrev pub given : Bool → Order → Option Order
+given good o = cond good (Some o) None
 
 -- `reset` takes the word of a RESET.
-abbrev reset_by : Bool → Unpacked → Line
-reset_by good (Accepted e) = given Reset (good && is_reset e) (Event e)
-reset_by good StrayBit = Misused Reset
+abbrev reset_by : Result AnEvent NoEvent → Option Order
+reset_by (Ok e) = given (is_reset e) (Event e)
+reset_by (Err why) = None
 
-unfoldable pub reset_line : List ℕ → Line
-reset_line t = reset_by (word_of t).good (unpacked (word_of t).value)
+unfoldable pub reset_line : List ℕ → Option Order
+reset_line t = option_and_then (λ w. reset_by (unpacked w)) (word_of t)
 
 -- `take` takes `ack` or `nack`.
-unfoldable pub take_line : List ℕ → Line
-take_line t =
-    given Take (eqb (spelled64 t) (name "ack") || eqb (spelled64 t) (name "nack")) (Event (event.Take (eqb (spelled64 t) (name "ack"))))
+unfoldable pub take_line : List ℕ → Option Order
+take_line t = cond (says "ack" t) (Some (Event (event.Take true))) (given (says "nack" t) (Event (event.Take false)))
 
 -- `w` takes a register, `=` and a value, five characters, and up to 255 values more, each of three.
 abbrev MOST_WRITE : ℕ
@@ -42,68 +41,73 @@ MOST_WRITE = 5 + 3 * 255
 abbrev pub more_in : List ℕ → ℕ
 more_in t = (length t - 5) / 3
 
-abbrev pub is_write : List ℕ → Bool
-is_write t = ((pair_of (code "=") (take 5 t)).good && eqb (length t % 3) 2) && all_further t (more_in t)
+abbrev pub writes : List ℕ → ℕ × ℕ → Option Order
+writes t p = given (all_further t (more_in t)) (Write p.0 p.1 (more_in t))
 
-unfoldable pub write_line : List ℕ → Line
+unfoldable pub write_line : List ℕ → Option Order
 write_line t =
-    cond (ltb (length t) 5) (Misused W)
-    (cond (ltb MOST_WRITE (length t)) (Misused W)
-    (given W (is_write t) (Write (pair_of (code "=") (take 5 t)).first (pair_of (code "=") (take 5 t)).second (more_in t))))
+    cond (ltb (length t) 5) None
+    (cond (ltb MOST_WRITE (length t)) None
+    (cond (eqb (length t % 3) 2) (option_and_then (writes t) (pair_of (code "=") (take 5 t))) None))
 
 -- `r` takes a register, or the first and the last of several with `-` between them; FFh is followed by 00h.
 unfoldable pub span : ℕ → ℕ → ℕ
 span first last = (256 + last - first) % 256
 
-unfoldable pub read_line : List ℕ → Line
+unfoldable pub read_line : List ℕ → Option Order
 read_line t =
     cond (eqb (length t) 5)
-    (given R (pair_of (code "-") t).good (Read (pair_of (code "-") t).first (span (pair_of (code "-") t).first (pair_of (code "-") t).second)))
-    (given R (octet_of t).good (Read (octet_of t).value 0))
+    (option_map (λ p. Read p.0 (span p.0 p.1)) (pair_of (code "-") t))
+    (option_map (λ r. Read r 0) (octet_of t))
 
 -- `chassis` takes how many docks stand on the bus, one to four.
-unfoldable pub chassis_line : List ℕ → Line
-chassis_line t = given Chassis (((small_of t).good && leb 1 (small_of t).value) && leb (small_of t).value 4) (Docks (small_of t).value)
+unfoldable pub chassis_line : List ℕ → Option Order
+chassis_line t = option_and_then (λ n. given (leb 1 n && leb n 4) (Docks n)) (small_of t)
 
--- A verb that takes a byte, and one that takes nothing.
-abbrev octet_line : Verb → List ℕ → (ℕ → Order) → Line
-octet_line v t f = given v (octet_of t).good (f (octet_of t).value)
-
-abbrev alone_line : Verb → List ℕ → Order → Line
-alone_line v t o = given v (eqb (length t) 0) o
+-- A verb that takes nothing.
+abbrev pub alone : List ℕ → Order → Option Order
+alone t o = given (eqb (length t) 0) o
 
 -- A verb and the word after it, empty where there is none.
-unfoldable pub order_line : Verb → List ℕ → Line
+unfoldable pub order_line : Verb → List ℕ → Option Order
 order_line Reset t = reset_line t
-order_line Pins t = octet_line Pins t (λ n. Event (event.Pins n))
-order_line Tick t = given Tick (ticks_of t).good (Ticks (ticks_of t).value)
-order_line Timeout t = alone_line Timeout t (Event event.Timeout)
-order_line Start t = alone_line Start t (Event event.Start)
-order_line Stop t = alone_line Stop t (Event event.Stop)
-order_line Byte t = octet_line Byte t (λ n. Event (event.Byte n))
+order_line Pins t = option_map (λ n. Event (event.Pins n)) (octet_of t)
+order_line Tick t = option_map Ticks (ticks_of t)
+order_line Timeout t = alone t (Event event.Timeout)
+order_line Start t = alone t (Event event.Start)
+order_line Stop t = alone t (Event event.Stop)
+order_line Byte t = option_map (λ n. Event (event.Byte n)) (octet_of t)
 order_line Take t = take_line t
-order_line Word t = given Word (word_of t).good (AWord (word_of t).value)
+order_line Word t = option_map AWord (word_of t)
 order_line W t = write_line t
 order_line R t = read_line t
-order_line At t = octet_line At t Address
-order_line Out t = alone_line Out t Outputs
-order_line Regs t = alone_line Regs t Registers
-order_line Help t = alone_line Help t Verbs
-order_line Save t = alone_line Save t Saving
-order_line Load t = given Load (not (eqb (length t) 0)) Loading
-order_line Kind t = given Kind (small_of t).good (Name (small_of t).value)
+order_line At t = option_map Address (octet_of t)
+order_line Out t = alone t Outputs
+order_line Regs t = alone t Registers
+order_line Help t = alone t Verbs
+order_line Save t = alone t Saving
+order_line Load t = given (not (eqb (length t) 0)) Loading
+order_line Kind t = option_map Name (small_of t)
 order_line Chassis t = chassis_line t
-order_line Dock t = given Dock (small_of t).good (Choose (small_of t).value)
+order_line Dock t = option_map Choose (small_of t)
 
 -- No verb takes more than one word.
-unfoldable pub verb_line : Verb → List ℕ → Line
-verb_line v t = cond (eqb (length (trimmed (rest t))) 0) (order_line v (first t)) (Misused v)
+unfoldable pub verb_line : Verb → List ℕ → Option Order
+verb_line v t = option_and_then (order_line v) (only t)
+
+-- What a line means: an order, or nothing where it is blank, or what is wrong with it.
+abbrev pub Line : Type 0
+Line = Result (Option Order) Mistake
+
+abbrev pub does_or : Mistake → Option Order → Line
+does_or m None = Err m
+does_or m (Some o) = Ok (Some o)
 
 -- A name and what follows it.
-abbrev pub named_line : Named → List ℕ → Line
-named_line Nothing t = Unknown
-named_line (This v) t = verb_line v t
-named_line (AtBay h) t = hand_line h t
+abbrev pub named_line : Option Named → List ℕ → Line
+named_line None t = Err Unknown
+named_line (Some (This v)) t = does_or (Misused v) (verb_line v t)
+named_line (Some (AtBay h)) t = does_or (Mishandled h) (hand_line h t)
 
 -- A comment begins with `#` and is no part of what the line says.
 unfoldable pub plain : List ℕ → List ℕ
@@ -114,7 +118,7 @@ unfoldable pub argument_of : List ℕ → List ℕ
 argument_of l = first (rest (plain l))
 
 unfoldable pub text_line : List ℕ → Line
-text_line t = cond (eqb (length (first t)) 0) Blank (named_line (verb_of (spelled64 (first t))) (rest t))
+text_line t = cond (eqb (length (first t)) 0) (Ok None) (named_line (verb_of (first t)) (rest t))
 
 unfoldable pub line_of : List ℕ → Line
 line_of l = text_line (plain l)

@@ -1,15 +1,11 @@
 -- The verbs by their names.
-use Rattle.std.specs.Prelude.{ℕ, cond, List, [], ◌∷◌, eqb}
+use Rattle.std.specs.Prelude.{ℕ, cond, List, [], ◌∷◌, Option, Some, None}
 use Prim.Native.String.{String}
-use Rattle.script.specs.Text.{characters, spelled}
+use Rattle.script.specs.Text.{says}
 use Rattle.script.specs.declared.Verb.TheVariants.{Reset, Pins, Tick, Timeout, Start, Stop, Byte, Take, Word, W, R, At, Out, Regs, Help, Save, Load, Kind, Chassis, Dock}
 use Rattle.script.specs.declared.Hand.TheVariants.{Insert, Remove, Press, Release, Secure, Unsecure}
 use Rattle.script.specs.declared.Named.{Named}
-use Rattle.script.specs.declared.Named.TheVariants.{This, AtBay, Nothing}
-
--- A text as `spelled` makes a number of it.
-unfoldable pub name : String → ℕ
-name t = spelled (characters t)
+use Rattle.script.specs.declared.Named.TheVariants.{This, AtBay}
 
 pub record Entry : Type 0 where
   pub text : String
@@ -48,9 +44,9 @@ verbs =
     ∷ entry "unsecure" (AtBay Unsecure)
     ∷ []
 
-abbrev pub among : List Entry → ℕ → Named
-among [] n = Nothing
-among (e ∷ es) n = cond (eqb n (name e.text)) e.stands (among es n)
+abbrev pub among : List Entry → List ℕ → Option Named
+among [] w = None
+among (e ∷ es) w = cond (says e.text w) (Some e.stands) (among es w)
 
-unfoldable pub verb_of : ℕ → Named
-verb_of n = among verbs n
+unfoldable pub verb_of : List ℕ → Option Named
+verb_of w = among verbs w

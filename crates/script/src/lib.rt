@@ -85,18 +85,15 @@ pub enum Order {
     Choose(u8),
 }
 
-// What a line means.
+// What is wrong with a line.
 #[derive(Clone, Copy)]
-pub enum Line {
-    // Nothing but blanks and a comment.
-    Blank,
+pub enum Mistake {
     // It begins with no verb.
     Unknown,
     // What follows the verb is not what it takes.
     Misused(Verb),
     // What follows the hand's word is not what it takes.
     Mishandled(Hand),
-    Does(Order),
 }
 
 // What a name stands for.
@@ -104,27 +101,4 @@ pub enum Line {
 enum Named {
     This(Verb),
     AtBay(Hand),
-    Nothing,
-}
-
-// A text as a byte, 0 where it isn't one.
-#[derive(Clone, Copy)]
-struct Octet {
-    good: bool,
-    value: u8,
-}
-
-// A text as a number of 16 bits, 0 where it isn't one.
-#[derive(Clone, Copy)]
-pub struct Number {
-    pub good: bool,
-    pub value: u16,
-}
-
-// A text as two bytes.
-#[derive(Clone, Copy)]
-struct Pair {
-    good: bool,
-    first: u8,
-    second: u8,
 }

@@ -1,13 +1,13 @@
 // What a line means: a verb, what it takes, and a comment after `#`.
 ghost use Rattle.std.specs.Prelude.{◌≡◌};
-ghost use Rattle.script.specs.Lines.{given, reset_line, take_line, write_line, span, read_line, chassis_line, order_line, verb_line, plain, argument_of, line_of};
+ghost use Rattle.script.specs.Lines.{alone, reset_line, take_line, write_line, span, read_line, chassis_line, order_line, verb_line, plain, argument_of, line_of};
 
 use crate::arguments::{all_further, octet, pair, small, ticks, word};
 use crate::hands::at_bay;
-use crate::text::{after_first, first_word, spell, trim};
-use crate::verbs::{ACK, NACK, verb};
-use crate::{Line, Named, Order, Verb};
-use event::{Event, Unpacked};
+use crate::text::{after_first, first_word, only_word};
+use crate::verbs::named;
+use crate::{Mistake, Named, Order, Verb};
+use event::Event;
 
 // The characters of two bytes with a sign between them, and of each value after that.
 const PAIR: usize = 5;
@@ -20,69 +20,51 @@ const MOST_WRITE: usize = PAIR + FURTHER * 255;
 // As many docks as one bus has.
 const MOST_DOCKS: u8 = 4;
 
-// An order, where what follows its verb is what the verb takes.
-#[tactic(auto, unfolding(crate::specs::Lines::given))]
-fn given(verb: Verb, good: bool, order: Order) -> Line
-    ensures { result ≡ given verb good order }
+// An order of a verb that takes nothing.
+fn alone(text: &[u8], order: Order) -> Option<Order>
+    ensures { result ≡ alone text.now order }
 {
-    if good {
-        Line::Does(order)
-    } else {
-        Line::Misused(verb)
-    }
+    text.is_empty().then_some(order)
 }
 
 // The word of a RESET.
 #[tactic(auto, unfolding(crate::specs::Lines::reset_line))]
-fn reset(text: &[u8]) -> Line
+fn reset(text: &[u8]) -> Option<Order>
     ensures { result ≡ reset_line text.now }
 {
-    let n = word(text);
-    let Unpacked::Accepted(event) = event::unpack(n.value) else {
-        return Line::Misused(Verb::Reset);
+    let Ok(event) = event::unpack(word(text)?) else {
+        return None;
     };
-    given(Verb::Reset, n.good & event.is_reset(), Order::Event(event))
+    event.is_reset().then_some(Order::Event(event))
 }
 
-#[tactic(auto, unfolding(crate::specs::Lines::take_line, crate::specs::Verbs::name, crate::specs::Text::spelled))]
-fn take(text: &[u8]) -> Line
+#[tactic(auto, unfolding(crate::specs::Lines::take_line))]
+fn take(text: &[u8]) -> Option<Order>
     ensures { result ≡ take_line text.now }
 {
-    let said = spell(text);
-    let ack = said == ACK;
-    given(
-        Verb::Take,
-        ack | (said == NACK),
-        Order::Event(Event::Take(ack)),
-    )
+    match text {
+        b"ack" => Some(Order::Event(Event::Take(true))),
+        b"nack" => Some(Order::Event(Event::Take(false))),
+        _ => None,
+    }
 }
 
 // A register, `=` and a value, and more values, each after a comma.
 #[tactic(auto, unfolding(crate::specs::Lines::write_line))]
-fn write(text: &[u8]) -> Line
+fn write(text: &[u8]) -> Option<Order>
     ensures { result ≡ write_line text.now }
 {
     let length = text.len();
-    if length < PAIR {
-        return Line::Misused(Verb::W);
+    if length < PAIR || MOST_WRITE < length || length % FURTHER != PAIR % FURTHER {
+        return None;
     }
-    if MOST_WRITE < length {
-        return Line::Misused(Verb::W);
-    }
-    let p = pair(b'=', &text[..PAIR]);
-    let register = p.first;
-    let value = p.second;
+    let (register, value) = pair(b'=', &text[..PAIR])?;
     let more = ((length - PAIR) / FURTHER) as u8;
-    let good = p.good & (length % FURTHER == PAIR % FURTHER) & all_further(text, more);
-    given(
-        Verb::W,
-        good,
-        Order::Write {
-            register,
-            value,
-            more,
-        },
-    )
+    all_further(text, more).then_some(Order::Write {
+        register,
+        value,
+        more,
+    })
 }
 
 // How many registers come after the first, up to the last; FFh is followed by 00h.
@@ -90,79 +72,60 @@ fn write(text: &[u8]) -> Line
 fn span(first: u8, last: u8) -> u8
     ensures { result ≡ span first last }
 {
-    ((256 + last as u16 - first as u16) % 256) as u8
+    last.wrapping_sub(first)
 }
 
 // A register, or the first and the last with `-` between them.
 #[tactic(auto, unfolding(crate::specs::Lines::read_line))]
-fn read(text: &[u8]) -> Line
+fn read(text: &[u8]) -> Option<Order>
     ensures { result ≡ read_line text.now }
 {
     if text.len() == PAIR {
-        let p = pair(b'-', text);
-        let register = p.first;
-        let more = span(register, p.second);
-        return given(Verb::R, p.good, Order::Read { register, more });
+        let (register, last) = pair(b'-', text)?;
+        let more = span(register, last);
+        return Some(Order::Read { register, more });
     }
-    let one = octet(text);
-    let register = one.value;
-    given(Verb::R, one.good, Order::Read { register, more: 0 })
+    let register = octet(text)?;
+    Some(Order::Read { register, more: 0 })
 }
 
 // One to four docks.
 #[tactic(auto, unfolding(crate::specs::Lines::chassis_line))]
-fn chassis(text: &[u8]) -> Line
+fn chassis(text: &[u8]) -> Option<Order>
     ensures { result ≡ chassis_line text.now }
 {
-    let n = small(text);
-    let docks = n.value;
-    given(
-        Verb::Chassis,
-        n.good & (1 <= docks) & (docks <= MOST_DOCKS),
-        Order::Docks(docks),
-    )
+    match small(text)? {
+        docks @ 1..=MOST_DOCKS => Some(Order::Docks(docks)),
+        _ => None,
+    }
 }
 
 // A verb and the word after it, empty where there is none.
 #[tactic(auto, unfolding(crate::specs::Lines::order_line))]
-fn order(verb: Verb, text: &[u8]) -> Line
+fn order(verb: Verb, text: &[u8]) -> Option<Order>
     ensures { result ≡ order_line verb text.now }
 {
-    let alone = text.len() == 0;
-    let byte = octet(text);
     match verb {
         Verb::Reset => reset(text),
-        Verb::Pins => given(verb, byte.good, Order::Event(Event::Pins(byte.value))),
-        Verb::Tick => {
-            let n = ticks(text);
-            given(verb, n.good, Order::Ticks(n.value))
-        }
-        Verb::Timeout => given(verb, alone, Order::Event(Event::Timeout)),
-        Verb::Start => given(verb, alone, Order::Event(Event::Start)),
-        Verb::Stop => given(verb, alone, Order::Event(Event::Stop)),
-        Verb::Byte => given(verb, byte.good, Order::Event(Event::Byte(byte.value))),
+        Verb::Pins => Some(Order::Event(Event::Pins(octet(text)?))),
+        Verb::Tick => Some(Order::Ticks(ticks(text)?)),
+        Verb::Timeout => alone(text, Order::Event(Event::Timeout)),
+        Verb::Start => alone(text, Order::Event(Event::Start)),
+        Verb::Stop => alone(text, Order::Event(Event::Stop)),
+        Verb::Byte => Some(Order::Event(Event::Byte(octet(text)?))),
         Verb::Take => take(text),
-        Verb::Word => {
-            let n = word(text);
-            given(verb, n.good, Order::Word(n.value))
-        }
+        Verb::Word => Some(Order::Word(word(text)?)),
         Verb::W => write(text),
         Verb::R => read(text),
-        Verb::At => given(verb, byte.good, Order::Address(byte.value)),
-        Verb::Out => given(verb, alone, Order::Outputs),
-        Verb::Regs => given(verb, alone, Order::Registers),
-        Verb::Help => given(verb, alone, Order::Help),
-        Verb::Save => given(verb, alone, Order::Save),
-        Verb::Load => given(verb, !alone, Order::Load),
-        Verb::Kind => {
-            let n = small(text);
-            given(verb, n.good, Order::Name(n.value))
-        }
+        Verb::At => Some(Order::Address(octet(text)?)),
+        Verb::Out => alone(text, Order::Outputs),
+        Verb::Regs => alone(text, Order::Registers),
+        Verb::Help => alone(text, Order::Help),
+        Verb::Save => alone(text, Order::Save),
+        Verb::Load => (!text.is_empty()).then_some(Order::Load),
+        Verb::Kind => Some(Order::Name(small(text)?)),
         Verb::Chassis => chassis(text),
-        Verb::Dock => {
-            let n = small(text);
-            given(verb, n.good, Order::Choose(n.value))
-        }
+        Verb::Dock => Some(Order::Choose(small(text)?)),
     }
 }
 
@@ -178,14 +141,10 @@ fn before_comment(line: &[u8]) -> &[u8]
 
 // A verb and what follows it. No verb takes more than one word.
 #[tactic(auto, unfolding(crate::specs::Lines::verb_line))]
-fn with_verb(verb: Verb, text: &[u8]) -> Line
+fn with_verb(verb: Verb, text: &[u8]) -> Option<Order>
     ensures { result ≡ verb_line verb text.now }
 {
-    let more = trim(after_first(text));
-    if more.len() != 0 {
-        return Line::Misused(verb);
-    }
-    order(verb, first_word(text))
+    order(verb, only_word(text)?)
 }
 
 // The word after the first of a line, empty where there is none.
@@ -196,21 +155,20 @@ pub fn argument(line: &[u8]) -> &[u8]
     first_word(after_first(before_comment(line)))
 }
 
-// What a line means.
+// What a line means; nothing where it has only blanks and a comment.
 #[tactic(auto, unfolding(crate::specs::Lines::text_line, crate::specs::Lines::line_of))]
-pub fn meaning(line: &[u8]) -> Line
+pub fn meaning(line: &[u8]) -> Result<Option<Order>, Mistake>
     ensures { result ≡ line_of line.now }
 {
     let text = before_comment(line);
     let name = first_word(text);
+    if name.is_empty() {
+        return Ok(None);
+    }
     let follows = after_first(text);
-    if name.len() == 0 {
-        return Line::Blank;
-    }
-    let named = verb(spell(name));
-    match named {
-        Named::This(verb) => with_verb(verb, follows),
-        Named::AtBay(hand) => at_bay(hand, follows),
-        Named::Nothing => Line::Unknown,
-    }
+    let order = match named(name).ok_or(Mistake::Unknown)? {
+        Named::This(verb) => with_verb(verb, follows).ok_or(Mistake::Misused(verb))?,
+        Named::AtBay(hand) => at_bay(hand, follows).ok_or(Mistake::Mishandled(hand))?,
+    };
+    Ok(Some(order))
 }

@@ -1,3 +1,4 @@
+pub mod Four
 pub mod First
 pub mod Laws
 pub mod Determined

@@ -6,7 +6,7 @@ mod once;
 mod record;
 mod sfr;
 
-#[derive(Clone, Copy)]
+#[derive(Clone, Copy, PartialEq, Eq)]
 pub struct Second {
     // Subsystem vendor and subsystem, low byte first: 08h to 0Bh.
     pub subsystem: [u8; Second::SUBSYSTEM],

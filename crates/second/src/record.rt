@@ -26,16 +26,11 @@ impl Second {
     pub fn reset(self) -> Second
         ensures { result ≡ reset self }
     {
-        let subsystem = self.subsystem;
-        let form_factors = self.form_factors;
-        let form_factors_written = self.form_factors_written;
         Second {
-            subsystem,
             subsystem_written: [false; Second::SUBSYSTEM],
-            form_factors,
-            form_factors_written,
             sfr: 0,
             sfr_written: false,
+            ..self
         }
     }
 
@@ -44,8 +39,7 @@ impl Second {
     pub fn fit(self) -> bool
         ensures { result ≡ fits self }
     {
-        let form_factors = self.form_factors;
-        (form_factors[0] <= Second::MOST_FORM_FACTOR)
-            & (form_factors[1] <= Second::MOST_FORM_FACTOR)
+        (self.form_factors[0] <= Second::MOST_FORM_FACTOR)
+            & (self.form_factors[1] <= Second::MOST_FORM_FACTOR)
     }
 }

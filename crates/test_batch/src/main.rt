@@ -12,14 +12,9 @@ const WORDS: [u16; 12] = [
 ];
 
 fn say(out: Stdout, name: &str, done: Batched) -> io::Result<()> {
-    let outcome = done.outcome;
-    let refusal = outcome.refusal();
-    let count = outcome.count();
+    let refusal = calls::number(done.outcome);
+    let count = calls::count(done.outcome);
     print!(out; "{name}: refusal {refusal}, count {count}, buffer")
-}
-
-fn wide(byte: u8) -> u64 {
-    byte as u64
 }
 
 fn show(out: Stdout, buffer: &[u8]) -> io::Result<()> {
@@ -27,7 +22,7 @@ fn show(out: Stdout, buffer: &[u8]) -> io::Result<()> {
         if i % 4 == 0 {
             print!(out; " ")?;
         }
-        print!(out; "{:02x}", wide(*byte))?;
+        print!(out; "{byte:02x}")?;
     }
     println!(out; "")
 }

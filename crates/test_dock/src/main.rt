@@ -3,21 +3,16 @@
 // them, and each field at the end of its range. It prints what was done, in the paper's notation, and what came back.
 #![tactic(auto)]
 
-mod compare;
 mod events;
 mod show;
 mod states;
 
 use bay::Bay;
 use bus::Progress;
-use compare::{same, same_bay};
 use dock::Controller;
 use events::{byte, event, pins, reset, second_reset, start, stop, take, ten_ticks, tick, write};
 use show::{answer, decimal, drives, given_back, line, put, reads, word};
-use states::{
-    bay, with_bay_count, with_counts, with_form_factors, with_lock_time, with_phase, with_progress,
-    with_pulse, with_request, with_state, with_straps, with_wait, with_wait_time,
-};
+use states::{bay, with, with_bay};
 use std::io::Stdout;
 
 fn two_data_bytes(out: Stdout) {
@@ -72,7 +67,7 @@ fn dbccr_once(out: Stdout) {
 
 fn command_ended(out: Stdout) {
     let c = byte(out, byte(out, start(out, reset(out, 0xC0BF)), 0x90), 0x14);
-    byte(out, event(out, c, b"TIMEOUT", 0xE000), 0x04);
+    byte(out, event(out, c, "TIMEOUT", 0xE000), 0x04);
     line(out);
     byte(out, start(out, start(out, reset(out, 0xC0BF))), 0x90);
     line(out);
@@ -81,15 +76,13 @@ fn command_ended(out: Stdout) {
 // The whole answer of the single call, and whether the state came back as it was.
 fn answered(out: Stdout, c: Controller, w: u16) {
     let s = c.step(w);
-    let a = s.answer;
-    let next = s.controller;
-    answer(out, a);
-    given_back(out, same(next, c));
+    answer(out, s.answer);
+    given_back(out, s.controller == c);
 }
 
-fn single(out: Stdout, name: &[u8], c: Controller, w: u16) {
+fn single(out: Stdout, name: &str, c: Controller, w: u16) {
     put(out, name);
-    put(out, b", ");
+    put(out, ", ");
     word(out, w);
     answered(out, c, w);
     line(out);
@@ -97,29 +90,24 @@ fn single(out: Stdout, name: &[u8], c: Controller, w: u16) {
 
 fn fresh_takes_only_a_reset(out: Stdout) {
     let c = Controller::fresh();
-    single(out, b"fresh", c, 0x0000);
-    single(out, b"fresh", c, 0x2000);
-    single(out, b"fresh", c, 0x4090);
-    single(out, b"fresh", c, 0x6000);
-    single(out, b"fresh", c, 0x80FF);
-    single(out, b"fresh", c, 0xA000);
-    single(out, b"fresh", c, 0xE000);
-    single(out, b"fresh", c, 0xC0BF);
-    single(out, b"fresh", c, 0x0001);
+    for w in [
+        0x0000, 0x2000, 0x4090, 0x6000, 0x80FF, 0xA000, 0xE000, 0xC0BF, 0x0001,
+    ] {
+        single(out, "fresh", c, w);
+    }
 }
 
 fn refusals(out: Stdout, c: Controller) {
-    single(out, b"started", c, 0xA000);
-    single(out, b"started", c, 0x6000);
-    single(out, b"started", c, 0x0001);
-    single(out, b"started", c, 0x4190);
-    let unfit = with_phase(c, 200);
-    single(out, b"unfit", unfit, 0xA000);
-    single(out, b"unfit", unfit, 0x0001);
-    single(out, b"unfit", unfit, 0xC0BF);
+    for w in [0xA000, 0x6000, 0x0001, 0x4190] {
+        single(out, "started", c, w);
+    }
+    let unfit = with(c, |c| c.machine.phase = 200);
+    for w in [0xA000, 0x0001, 0xC0BF] {
+        single(out, "unfit", unfit, w);
+    }
 }
 
-fn questions(out: Stdout, name: &[u8], c: Controller) {
+fn questions(out: Stdout, name: &str, c: Controller) {
     put(out, name);
     reads(out, c, 0x00);
     reads(out, c, 0x10);
@@ -128,8 +116,8 @@ fn questions(out: Stdout, name: &[u8], c: Controller) {
 }
 
 fn enabled_without_device(out: Stdout) {
-    let c = with_state(reset(out, 0xC0FF), 0, Bay::ENABLED);
-    put(out, b", state 2");
+    let c = with_bay(reset(out, 0xC0FF), 0, |b| b.state = Bay::ENABLED);
+    put(out, ", state 2");
     reads(out, c, 0x10);
     drives(out, c);
     let d = tick(out, c);
@@ -142,21 +130,19 @@ fn enabled_without_device(out: Stdout) {
 }
 
 fn count_of_1394(out: Stdout, c: Controller) {
-    let b = bay(c, 0);
-    let counts = b.counts;
-    put(out, b", count ");
-    decimal(out, counts[Bay::N1394] as u16);
+    put(out, ", count ");
+    decimal(out, bay(c, 0).counts[Bay::N1394] as u16);
 }
 
 fn count_running_at_rest(out: Stdout) {
-    let c = with_counts(reset(out, 0xC0FF), 0, 9, 0, 0);
-    put(out, b", count 9 of 1394");
+    let c = with_bay(reset(out, 0xC0FF), 0, |b| b.counts = [9, 0, 0]);
+    put(out, ", count 9 of 1394");
     let d = tick(out, c);
     count_of_1394(out, d);
     reads(out, d, 0x10);
     count_of_1394(out, pins(out, d, 0xFF));
     line(out);
-    put(out, b"after that TICK,");
+    put(out, "after that TICK,");
     let e = tick(out, pins(out, d, 0x7F));
     count_of_1394(out, e);
     reads(out, e, 0x10);
@@ -164,13 +150,12 @@ fn count_running_at_rest(out: Stdout) {
 }
 
 fn wait_of(out: Stdout, c: Controller) {
-    let b = bay(c, 0);
-    put(out, b", wait ");
-    decimal(out, b.wait);
+    put(out, ", wait ");
+    decimal(out, bay(c, 0).wait);
 }
 
 fn wait_without_device(out: Stdout) {
-    let c = with_wait(reset(out, 0xC0FF), 0, 2);
+    let c = with_bay(reset(out, 0xC0FF), 0, |b| b.wait = 2);
     wait_of(out, c);
     let d = tick(out, c);
     wait_of(out, d);
@@ -190,8 +175,8 @@ fn closed_and_not_empty(out: Stdout) {
     reads(out, open, 0x18);
     drives(out, open);
     line(out);
-    let c = with_bay_count(open, 1);
-    put(out, b"the same with count 1");
+    let c = with(open, |c| c.machine.shared.bay_count = 1);
+    put(out, "the same with count 1");
     reads(out, c, 0x0C);
     reads(out, c, 0x18);
     reads(out, c, 0x1C);
@@ -202,30 +187,42 @@ fn closed_and_not_empty(out: Stdout) {
         0x1C,
         0x81,
     );
-    put(out, b", bay 1");
-    given_back(out, same_bay(bay(d, 1), bay(c, 1)));
+    put(out, ", bay 1");
+    given_back(out, bay(d, 1) == bay(c, 1));
     line(out);
 }
 
 fn read_open_before_reset(out: Stdout) {
-    let c = with_progress(Controller::fresh(), Progress::Reading(0x55));
-    put(out, b"fresh, a read of 55h open,");
+    let c = with(
+        Controller::fresh(),
+        |c| c.progress = Progress::Reading(0x55),
+    );
+    put(out, "fresh, a read of 55h open,");
     let d = take(out, c);
-    given_back(out, same(d, c));
-    let e = event(out, d, b"RESET C0FF", 0xC0FF);
+    given_back(out, d == c);
+    let e = event(out, d, "RESET C0FF", 0xC0FF);
     take(out, e);
     line(out);
 }
 
 // A field at its last fit value, and one past it.
-fn limit(out: Stdout, name: &[u8], last: u16, fit: Controller, unfit: Controller) {
+fn limit<T: Copy + Into<u16>, F: Fn(T) -> Controller>(
+    out: Stdout,
+    name: &str,
+    last: T,
+    past: T,
+    with: F,
+)
+    requires { F.IsAlwaysCallable with }
+{
     put(out, name);
-    put(out, b" ");
-    decimal(out, last);
-    put(out, b",");
-    event(out, fit, b"TICK", 0xA000);
-    put(out, b"; ");
-    decimal(out, std::num::wrapping_add_u16(last, 1));
+    put(out, " ");
+    decimal(out, last.into());
+    put(out, ",");
+    event(out, with(last), "TICK", 0xA000);
+    put(out, "; ");
+    decimal(out, past.into());
+    let unfit = with(past);
     answered(out, unfit, 0xA000);
     reads(out, unfit, 0x10);
     drives(out, unfit);
@@ -233,113 +230,87 @@ fn limit(out: Stdout, name: &[u8], last: u16, fit: Controller, unfit: Controller
 }
 
 fn bay_limits(out: Stdout, c: Controller, i: u8) {
-    limit(out, b"state", 4, with_state(c, i, 4), with_state(c, i, 5));
+    limit(out, "state", 4, 5, |n| with_bay(c, i, |b| b.state = n));
     limit(
         out,
-        b"request",
+        "request",
         4,
-        with_request(c, i, 4),
-        with_request(c, i, 5),
+        5,
+        |n| with_bay(c, i, |b| b.control.request = n),
     );
+    limit(out, "pulse", 200, 201, |n| with_bay(c, i, |b| b.pulse = n));
+    limit(out, "wait", 255, 256, |n| with_bay(c, i, |b| b.wait = n));
     limit(
         out,
-        b"pulse",
-        200,
-        with_pulse(c, i, 200),
-        with_pulse(c, i, 201),
-    );
-    limit(
-        out,
-        b"wait",
-        255,
-        with_wait(c, i, 255),
-        with_wait(c, i, 256),
-    );
-    limit(
-        out,
-        b"count of 1394",
+        "count of 1394",
         9,
-        with_counts(c, i, 9, 0, 0),
-        with_counts(c, i, 10, 0, 0),
+        10,
+        |n| with_bay(c, i, |b| b.counts = [n, 0, 0]),
     );
     limit(
         out,
-        b"count of USB",
+        "count of USB",
         9,
-        with_counts(c, i, 0, 9, 0),
-        with_counts(c, i, 0, 10, 0),
+        10,
+        |n| with_bay(c, i, |b| b.counts = [0, n, 0]),
     );
-    limit(
-        out,
-        b"count of removal request",
-        4,
-        with_counts(c, i, 0, 0, 4),
-        with_counts(c, i, 0, 0, 5),
-    );
+    limit(out, "count of removal request", 4, 5, |n| {
+        with_bay(c, i, |b| b.counts = [0, 0, n])
+    });
 }
 
 // With the second kind in force a pulse and a wait may be longer.
 fn second_limits(out: Stdout, c: Controller, i: u8) {
     limit(
         out,
-        b"pulse",
+        "pulse",
         1200,
-        with_pulse(c, i, 1200),
-        with_pulse(c, i, 1201),
+        1201,
+        |n| with_bay(c, i, |b| b.pulse = n),
     );
-    limit(
-        out,
-        b"wait",
-        560,
-        with_wait(c, i, 560),
-        with_wait(c, i, 561),
-    );
+    limit(out, "wait", 560, 561, |n| with_bay(c, i, |b| b.wait = n));
 }
 
 // 42h holds any byte.
 fn any_wait(out: Stdout, c: Controller) {
-    put(out, b"wait 255 of either bay and of 42h,");
-    let d = with_wait(with_wait(c, 0, 255), 1, 255);
-    let e = tick(out, with_wait_time(d, 255));
+    put(out, "wait 255 of either bay and of 42h,");
+    let d = with(c, |c| {
+        c.machine.bays[0].wait = 255;
+        c.machine.bays[1].wait = 255;
+        c.machine.shared.wait_time = 255;
+    });
+    let e = tick(out, d);
     wait_of(out, e);
     reads(out, e, 0x42);
     line(out);
 }
 
 fn limits(out: Stdout, c: Controller) {
-    limit(out, b"phase", 199, with_phase(c, 199), with_phase(c, 200));
-    limit(out, b"straps", 15, with_straps(c, 15), with_straps(c, 16));
+    limit(out, "phase", 199, 200, |n| with(c, |c| c.machine.phase = n));
+    limit(out, "straps", 15, 16, |n| with(c, |c| c.machine.straps = n));
     limit(
         out,
-        b"lock time",
+        "lock time",
         3,
-        with_lock_time(c, 3),
-        with_lock_time(c, 4),
+        4,
+        |n| with(c, |c| c.machine.shared.lock_time = n),
     );
     limit(
         out,
-        b"bay count",
+        "bay count",
         3,
-        with_bay_count(c, 3),
-        with_bay_count(c, 4),
+        4,
+        |n| with(c, |c| c.machine.shared.bay_count = n),
     );
-    limit(
-        out,
-        b"form factor of bay 0",
-        7,
-        with_form_factors(c, 7, 0),
-        with_form_factors(c, 8, 0),
-    );
-    limit(
-        out,
-        b"form factor of bay 1",
-        7,
-        with_form_factors(c, 0, 7),
-        with_form_factors(c, 0, 8),
-    );
-    put(out, b"bay 0:\n");
+    limit(out, "form factor of bay 0", 7, 8, |n| {
+        with(c, |c| c.machine.second.form_factors = [n, 0])
+    });
+    limit(out, "form factor of bay 1", 7, 8, |n| {
+        with(c, |c| c.machine.second.form_factors = [0, n])
+    });
+    put(out, "bay 0:\n");
     bay_limits(out, c, 0);
-    put(out, b"bay 1:\n");
+    put(out, "bay 1:\n");
     bay_limits(out, c, 1);
     any_wait(out, c);
 }
@@ -348,30 +319,30 @@ fn main(rt: HostRuntime) {
     let out = rt.stdout();
     put(
         out,
-        b"Bench examples (in brackets: the reply, and a TAKE's byte)\n",
+        "Bench examples (in brackets: the reply, and a TAKE's byte)\n",
     );
     two_data_bytes(out);
     no_such_register(out);
     own_address(out);
-    put(out, b"Readings shut out\n");
+    put(out, "Readings shut out\n");
     write_at_the_stop(out);
     read_at_the_read_byte(out);
     dbccr_once(out);
     command_ended(out);
     put(
         out,
-        b"Single call: state, word: refusal reply byte outputs\n",
+        "Single call: state, word: refusal reply byte outputs\n",
     );
     fresh_takes_only_a_reset(out);
-    put(out, b"started is ");
+    put(out, "started is ");
     let c = write(out, reset(out, 0xC0BF), 0x14, 0x04);
-    put(out, b"; unfit is that with phase 200\n");
+    put(out, "; unfit is that with phase 200\n");
     refusals(out, c);
-    put(out, b"Questions\n");
-    questions(out, b"fresh", Controller::fresh());
-    questions(out, b"started", c);
-    questions(out, b"unfit", with_phase(c, 200));
-    put(out, b"Fit states that no event reaches\n");
+    put(out, "Questions\n");
+    questions(out, "fresh", Controller::fresh());
+    questions(out, "started", c);
+    questions(out, "unfit", with(c, |c| c.machine.phase = 200));
+    put(out, "Fit states that no event reaches\n");
     enabled_without_device(out);
     count_running_at_rest(out);
     wait_without_device(out);
@@ -379,13 +350,13 @@ fn main(rt: HostRuntime) {
     read_open_before_reset(out);
     put(
         out,
-        b"Each field of started at its last fit value, and one past it\n",
+        "Each field of started at its last fit value, and one past it\n",
     );
     limits(out, c);
-    put(out, b"The same of ");
+    put(out, "The same of ");
     let d = second_reset(out, 0xC0BF);
-    put(out, b"\nbay 0:\n");
+    put(out, "\nbay 0:\n");
     second_limits(out, d, 0);
-    put(out, b"bay 1:\n");
+    put(out, "bay 1:\n");
     second_limits(out, d, 1);
 }

@@ -2,11 +2,11 @@
 // reader can hold against the table of document 01, "Event words", with bit 12 of RESET as document 02, request 4, has it.
 #![tactic(auto)]
 
-use event::{Event, Packed, Unpacked};
+use event::Event;
 use std::io;
 use std::io::Stdout;
 
-#[derive(Clone, Copy)]
+#[derive(Clone, Copy, Default)]
 struct Tally {
     accepted: u32,
     // Accepted, and converted back to what it was.
@@ -18,122 +18,67 @@ struct Tally {
 
 // One more where `yes`: no count of this program comes near its width.
 fn counted(n: u32, yes: bool) -> u32 {
-    if yes {
-        std::num::wrapping_add_u32(n, 1)
-    } else {
-        n
-    }
-}
-
-fn packs_to(event: Event, word: u16) -> bool {
-    match event::pack(event) {
-        Packed::Word(w) => w == word,
-        Packed::StrapsTooLarge => false,
-    }
+    n.wrapping_add(yes as u32)
 }
 
 fn unpacks_and_packs_back(word: u16) -> bool {
-    match event::unpack(word) {
-        Unpacked::Accepted(e) => packs_to(e, word),
-        Unpacked::StrayBit => false,
-    }
+    event::unpack(word).is_ok_and(|event| event::pack(event) == Ok(word))
 }
 
 fn asks_for_short(word: u16) -> bool {
-    match event::unpack(word) {
-        Unpacked::Accepted(e) => match e {
-            Event::Reset {
-                straps: _,
-                levels: _,
-                short_pulse,
-            } => short_pulse,
-            _ => false,
-        },
-        Unpacked::StrayBit => false,
-    }
+    matches!(
+        event::unpack(word),
+        Ok(Event::Reset {
+            short_pulse: true,
+            ..
+        })
+    )
 }
 
 fn with_word(t: Tally, word: u16) -> Tally {
-    let refusal = event::unpack(word).refusal();
+    let unpacked = event::unpack(word);
     Tally {
-        accepted: counted(t.accepted, refusal == 0),
+        accepted: counted(t.accepted, unpacked.is_ok()),
         same: counted(t.same, unpacks_and_packs_back(word)),
-        refused: counted(t.refused, refusal == 2),
+        refused: counted(t.refused, matches!(unpacked, Err(why) if why.number() == 2)),
         short: counted(t.short, asks_for_short(word)),
     }
 }
 
-fn is_reset(answer: Unpacked, straps: u8, levels: u8, short: bool) -> bool {
-    match answer {
-        Unpacked::Accepted(e) => match e {
-            Event::Reset {
-                straps: s,
-                levels: l,
-                short_pulse: p,
-            } => s == straps && l == levels && p == short,
-            _ => false,
-        },
-        Unpacked::StrayBit => false,
-    }
-}
-
 fn with_reset(t: Tally, straps: u8, levels: u8, short_pulse: bool) -> Tally {
-    let answer = event::pack(Event::Reset {
+    let event = Event::Reset {
         straps,
         levels,
         short_pulse,
-    });
-    let refusal = answer.refusal();
-    let word = answer.word();
-    let packed = refusal == 0;
+    };
+    let packed = event::pack(event);
+    let word = event::packed_word(event);
     Tally {
-        accepted: counted(t.accepted, packed),
-        same: counted(
-            t.same,
-            packed && is_reset(event::unpack(word), straps, levels, short_pulse),
+        accepted: counted(t.accepted, packed.is_ok()),
+        same: counted(t.same, packed.is_ok() && event::unpack(word) == Ok(event)),
+        refused: counted(
+            t.refused,
+            matches!(packed, Err(why) if why.number() == 6) && word == 0,
         ),
-        refused: counted(t.refused, refusal == 6 && word == 0),
         short: counted(t.short, asks_for_short(word)),
     }
 }
 
 fn words(from: u32, to: u32) -> Tally {
-    let mut t = Tally {
-        accepted: 0,
-        same: 0,
-        refused: 0,
-        short: 0,
-    };
-    for n in from..to {
-        t = with_word(t, (n % 65536) as u16);
-    }
-    t
+    (from..to).fold(Tally::default(), |t, n| with_word(t, (n % 65536) as u16))
 }
 
 fn resets(from: u32, to: u32, short_pulse: bool) -> Tally {
-    let mut t = Tally {
-        accepted: 0,
-        same: 0,
-        refused: 0,
-        short: 0,
-    };
-    for n in from..to {
-        t = with_reset(t, (n / 256 % 256) as u8, (n % 256) as u8, short_pulse);
-    }
-    t
-}
-
-fn column(out: Stdout, n: u32) -> io::Result<()> {
-    print!(out; "\t{n}")
+    (from..to).fold(Tally::default(), |t, n| {
+        with_reset(t, (n / 256 % 256) as u8, (n % 256) as u8, short_pulse)
+    })
 }
 
 fn row(out: Stdout, name: &str, t: Tally) -> io::Result<()> {
-    print!(out; "{name}")?;
-    column(out, t.accepted)?;
-    column(out, t.same)?;
-    column(out, t.refused)?;
-    column(out, t.short)?;
-    println!(out; "")
+    println!(out;
+        "{name}\t{}\t{}\t{}\t{}",
+        t.accepted, t.same, t.refused, t.short
+    )
 }
 
 fn main(rt: HostRuntime) -> io::Result<()> {

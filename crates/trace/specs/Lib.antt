@@ -1,3 +1,6 @@
 pub mod Text
 pub mod Pieces
 pub mod Example
+pub mod Words
+pub mod Cut
+pub mod Laws

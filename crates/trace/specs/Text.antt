@@ -23,6 +23,10 @@ unfoldable pub odd_for : List ℕ → List ℕ
 odd_for [] = []
 odd_for (b ∷ rest) = odd
 
+-- The header, and the lines of the words that are whole.
+unfoldable pub whole_lines : List ℕ → List ℕ
+whole_lines bytes = header ++ lines_of fresh_controller (words_in bytes)
+
 -- The whole text, by all bytes of the input.
 unfoldable pub text_of : List ℕ → List ℕ
 text_of bytes = header ++ (lines_of fresh_controller (words_in bytes) ++ odd_for (lone_in bytes))

@@ -1,49 +1,64 @@
 -- The held state as bytes: saved and loaded again it is the same, and bytes that are an image are the image of exactly one held state.
 -- Assumes nothing.
-use Prim.Native.Nat.{ℕ, zero, suc, ◌<◌}
+use Prim.Native.Nat.{ℕ, zero, suc, ◌<◌, ◌≤◌}
 use native.Mathlib.Omega.{arith}
-use mathlib.Core.Path.{◌≡◌, refl, ap}
-use mathlib.Core.Bool.{Bool, true, false, ◌&&◌, cond, true≢false, false≢true}
+use mathlib.Core.Path.{◌≡◌, refl, sym, ap}
+use mathlib.Core.Bool.{Bool, true, false, ◌&&◌, cond, and-eq-true_iff}
 use mathlib.Core.List.{List, [], ◌∷◌, map}
 use lib.Dec.{eqb, leb}
 use lib.ListN.{length, get_or}
-use borrow.Author.Tests.{eqb-true, leb-true}
+use borrow.Author.Tests.{eqb-true, leb-true, eq-eqb, le-leb}
+use Rattle.std.specs.Prelude.{Some, None, Result, Ok, Err}
+use Rattle.std.specs.Result.{result_ok}
+use Rattle.std.proofs.lemmas.Option.{none-some, same_Some, cond_some}
+use Rattle.pairs.specs.Pairs.{wide}
 use Rattle.pairs.proofs.Pairs.{word_back, high_back, low_back}
 use Rattle.bits.specs.Bits.{put}
-use Rattle.wire.specs.Image.{LAYOUT, BYTES, listening_number, listening_by, saved, is_image, wire_in, load_of}
+use Rattle.wire.specs.Image.{LAYOUT, BYTES, listening_number, listening_by, listening_in, saved, is_image, wire_in, load_of}
 use Rattle.wire.specs.declared.Wire.{Wire}
 use Rattle.wire.specs.declared.Lines.{Lines}
 use Rattle.wire.specs.declared.Ear.{Ear}
 use Rattle.wire.specs.declared.Listening.{Listening}
+use Rattle.wire.specs.declared.image.UnknownListening.{UnknownListening}
 use Rattle.wire.specs.declared.Listening.TheVariants.{Nothing, FirstByte, Bytes, Takes}
-use Rattle.wire.specs.declared.Loaded.{Loaded}
-use Rattle.wire.specs.declared.Loaded.TheVariants.{Held, NoImage}
 
 -- ---- what a caller knows of what it loaded
 
-abbrev is_held : Loaded → Bool
-is_held (Held w) = true
-is_held NoImage = false
-
-abbrev in_held : Loaded → Wire → Wire
-in_held (Held w) none = w
-in_held NoImage none = none
-
-pub held_image : (bytes : List ℕ) (w : Wire) → Held w ≡ load_of bytes → (is_image bytes ≡ true) × (w ≡ wire_in bytes)
+pub held_image : (bytes : List ℕ) (w : Wire) → Some w ≡ load_of bytes → (is_image bytes ≡ true) × (w ≡ wire_in bytes)
 unfolding load_of
-held_image bytes w e = go (is_image bytes) refl e
-  where
-    go : (t : Bool) → is_image bytes ≡ t → Held w ≡ cond t (Held (wire_in bytes)) NoImage → (is_image bytes ≡ true) × (w ≡ wire_in bytes)
-    go true p e = (p, ap (λ l. in_held l w) e)
-    go false p e = absurd (true≢false (ap is_held e))
+held_image bytes w e = let p = cond_some (is_image bytes) (wire_in bytes) w (sym e) in (p.0, sym p.1)
 
-pub no_image : (bytes : List ℕ) → NoImage ≡ load_of bytes → is_image bytes ≡ false
+pub no_image : (bytes : List ℕ) → None ≡ load_of bytes → is_image bytes ≡ false
 unfolding load_of
 no_image bytes e = go (is_image bytes) refl e
   where
-    go : (t : Bool) → is_image bytes ≡ t → NoImage ≡ cond t (Held (wire_in bytes)) NoImage → is_image bytes ≡ false
-    go true p e = absurd (false≢true (ap is_held e))
+    go : (t : Bool) → is_image bytes ≡ t → None ≡ cond t (Some (wire_in bytes)) None → is_image bytes ≡ false
+    go true p e = absurd (none-some (wire_in bytes) e)
     go false p e = p
+
+-- The held state of bytes that are as many as an image has, by its parts.
+abbrev held : List ℕ → ℕ → Listening → Wire
+held bytes low l =
+    record {
+      lines = record { sdat = eqb (get_or bytes 1 0) 1; low = low };
+      ear = record { listening = l; bits = get_or bytes 3 0; value = get_or bytes 4 0 };
+    }
+
+pub loaded :
+    (bytes : List ℕ) (low : ℕ) (l : Listening) → length bytes ≡ BYTES → get_or bytes 0 0 ≡ LAYOUT → get_or bytes 1 0 ≤ 1
+    → Some l ≡ result_ok (listening_in (get_or bytes 2 0)) → low ≡ wide (get_or bytes 5 0) (get_or bytes 6 0) → Some (held bytes low l) ≡ load_of bytes
+unfolding load_of is_image wire_in
+loaded bytes low l long v d n w =
+    rw (eq-eqb (length bytes) BYTES long, eq-eqb (get_or bytes 0 0) LAYOUT v, le-leb (get_or bytes 1 0) 1 d, w) (go (leb (get_or bytes 2 0) 3) n)
+  where
+    unknown : Result Listening UnknownListening
+    unknown = Err (record {})
+
+    go :
+        (t : Bool) → Some l ≡ result_ok (cond t (Ok (listening_by (get_or bytes 2 0))) unknown)
+        → Some (held bytes (wide (get_or bytes 5 0) (get_or bytes 6 0)) l) ≡ cond t (Some (held bytes (wide (get_or bytes 5 0) (get_or bytes 6 0)) (listening_by (get_or bytes 2 0)))) None
+    go true n = ap (λ x. Some (held bytes (wide (get_or bytes 5 0) (get_or bytes 6 0)) x)) (same_Some _ _ n)
+    go false n = absurd (none-some l (sym n))
 
 -- ---- a held state, saved and loaded
 
@@ -90,16 +105,12 @@ pub record Parts (bytes : List ℕ) : Type 0 where
   pub level : leb (get_or bytes 1 0) 1 ≡ true
   pub listened : leb (get_or bytes 2 0) 3 ≡ true
 
-and_parts : (a b : Bool) → (a && b) ≡ true → (a ≡ true) × (b ≡ true)
-and_parts true b h = (refl, h)
-and_parts false b h = absurd (false≢true h)
-
 pub parts : (bytes : List ℕ) → is_image bytes ≡ true → Parts bytes
 unfolding is_image
 parts bytes h =
-    let a = and_parts (eqb (length bytes) BYTES) _ h in
-    let b = and_parts (eqb (get_or bytes 0 0) LAYOUT && leb (get_or bytes 1 0) 1) _ a.1 in
-    let c = and_parts (eqb (get_or bytes 0 0) LAYOUT) _ b.0 in
+    let a = (and-eq-true_iff (eqb (length bytes) BYTES) _).0 h in
+    let b = (and-eq-true_iff (eqb (get_or bytes 0 0) LAYOUT && leb (get_or bytes 1 0) 1) _).0 a.1 in
+    let c = (and-eq-true_iff (eqb (get_or bytes 0 0) LAYOUT) _).0 b.0 in
     record { long = eqb-true _ BYTES a.0; version = eqb-true _ LAYOUT c.0; level = c.1; listened = b.1 }
 
 level_back : (b : ℕ) → leb b 1 ≡ true → put 0 (eqb b 1) ≡ b

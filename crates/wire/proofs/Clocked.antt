@@ -5,6 +5,7 @@ use native.Mathlib.Decide.{dec_lt}
 use mathlib.Core.Path.{◌≡◌, subst}
 use mathlib.Core.Bool.{Bool, false}
 use mathlib.Core.List.{List, [], ◌∷◌, ◌++◌, append-nil}
+use Rattle.std.specs.Prelude.{Some}
 use Rattle.bits.specs.Bits.{bit}
 use Rattle.event.specs.declared.Event.{Event}
 use Rattle.wire.specs.Nine.{waiting, bit_to}
@@ -13,7 +14,6 @@ use Rattle.wire.specs.Waves.{High, Low, Pulse, Pulses, level_after}
 use Rattle.wire.specs.declared.Ear.{Ear}
 use Rattle.wire.specs.declared.Listening.TheVariants.{Nothing}
 use Rattle.event.specs.declared.Event.TheVariants as event
-use Rattle.wire.specs.declared.Given.TheVariants as given
 use Rattle.wire.proofs.Samples.{at, hears, Goes, none, first, then, renamed, steady, clocked, waits, too_long, no_more}
 
 -- ---- levels that are held
@@ -42,7 +42,7 @@ low_spent d e (Low.more s c h) = let r = low_spent (bit 0 s) e h in record { lev
 
 reached :
     (d : Bool) (k : ℕ) (e : Ear) (s : ℕ) → k ≡ 17500 → bit 1 s ≡ false
-    → hear_of (at d k e) s ≡ hears (at (bit 0 s) 17501 (waiting Nothing)) (given.Event event.Timeout)
+    → hear_of (at d k e) s ≡ hears (at (bit 0 s) 17501 (waiting Nothing)) (Some event.Timeout)
 reached d k e s last c = rw last (too_long e s d c)
 
 -- One TIMEOUT for a stretch, however long it goes on.

@@ -4,10 +4,10 @@ use native.Mathlib.Omega.{arith}
 use mathlib.Core.Path.{◌≡◌, refl, ap, ◌∙◌, sym}
 use mathlib.Core.List.{List, [], ◌∷◌, ◌++◌, append_assoc}
 use lib.ListN.{length, length-append}
+use Rattle.std.specs.Prelude.{Option, Some, None}
+use Rattle.event.specs.declared.Event.{Event}
 use Rattle.wire.specs.Hear.{hear_of, after, events_in, events_of, spelled, words_of}
 use Rattle.wire.specs.declared.Wire.{Wire}
-use Rattle.wire.specs.declared.Given.{Given}
-use Rattle.wire.specs.declared.Given.TheVariants as given
 
 pub after_append : (w : Wire) (xs ys : List ℕ) → after w (xs ++ ys) ≡ after (after w xs) ys
 unfolding after
@@ -26,9 +26,9 @@ events_append w [] ys = refl
 events_append w (s ∷ xs) ys =
     ap (λ es. events_in (hear_of w s).given ++ es) (events_append (hear_of w s).wire xs ys) ∙ sym (append_assoc (events_in (hear_of w s).given) _ _)
 
-pub at_most_one : (g : Given) → length (spelled g) ≤ 1
-at_most_one given.Nothing = omega arith
-at_most_one (given.Event e) = omega arith
+pub at_most_one : (g : Option Event) → length (spelled g) ≤ 1
+at_most_one None = omega arith
+at_most_one (Some e) = omega arith
 
 pub words_most : (w : Wire) (ss : List ℕ) → length (words_of w ss) ≤ length ss
 unfolding words_of

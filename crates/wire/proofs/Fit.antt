@@ -3,10 +3,11 @@ use Prim.Native.Nat.{ℕ, ◌+◌, ◌≤◌}
 use native.Mathlib.Omega.{arith}
 use mathlib.Core.Path.{◌≡◌, refl}
 use mathlib.Core.Logic.{◌↔◌}
-use mathlib.Core.Bool.{Bool, true, false, cond, ◌&&◌, false≢true}
+use mathlib.Core.Bool.{Bool, true, false, cond, and-eq-true_iff}
 use mathlib.Core.List.{List, [], ◌∷◌}
 use lib.Dec.{leb, ltb}
 use borrow.Author.Tests.{leb-true, le-leb, ltb-true}
+use Rattle.std.specs.Prelude.{Option, Some, None}
 use Rattle.bits.specs.Bits.{bit}
 use Rattle.wire.specs.Levels.{lines_after, shown_by, run_after}
 use Rattle.wire.specs.Nine.{bit_to, tells, listens, collects, ninth, told}
@@ -16,20 +17,15 @@ use Rattle.wire.specs.declared.Wire.{Wire}
 use Rattle.wire.specs.declared.Ear.{Ear}
 use Rattle.wire.specs.declared.Shown.{Shown}
 use Rattle.wire.specs.declared.Shown.TheVariants as shown
-use Rattle.wire.specs.declared.Given.TheVariants.{Nothing}
 
 pub record Fits (w : Wire) : Type 0 where
   pub bits : w.ear.bits ≤ 8
   pub low : w.lines.low ≤ 17501
 
-both_true : (a b : Bool) → (a && b) ≡ true → (a ≡ true) × (b ≡ true)
-both_true true b h = (refl, h)
-both_true false b h = absurd (false≢true h)
-
 pub fit_parts : (w : Wire) → (fits w ≡ true) ↔ Fits w
 unfolding fits
 fit_parts w = (
-  λ h. let p = both_true (leb w.ear.bits 8) _ h in record { bits = leb-true _ 8 p.0; low = leb-true _ 17501 p.1 },
+  λ h. let p = (and-eq-true_iff (leb w.ear.bits 8) _).0 h in record { bits = leb-true _ 8 p.0; low = leb-true _ 17501 p.1 },
   λ f. rw (le-leb w.ear.bits 8 f.bits, le-leb w.lines.low 17501 f.low),
 )
 
@@ -51,18 +47,18 @@ bit_kept : (e : Ear) (d : Bool) → e.bits ≤ 8 → (bit_to e d).ear.bits ≤ 8
 unfolding bit_to
 bit_kept e d l = go (listens e.listening) (ltb e.bits 8) refl
   where
-    go : (t u : Bool) → ltb e.bits 8 ≡ u → (cond t (cond u (collects e d) (ninth e d)) (told e Nothing)).ear.bits ≤ 8
+    go : (t u : Bool) → ltb e.bits 8 ≡ u → (cond t (cond u (collects e d) (ninth e d)) (told e None)).ear.bits ≤ 8
     go true true p = omega (arith, ltb-true e.bits 8 p)
     go true false p = omega arith
     go false u p = l
 
-bits_kept : (e : Ear) (s : Shown) → e.bits ≤ 8 → (tells e s).ear.bits ≤ 8
+bits_kept : (e : Ear) (s : Option Shown) → e.bits ≤ 8 → (tells e s).ear.bits ≤ 8
 unfolding tells
-bits_kept e shown.Nothing l = l
-bits_kept e shown.Start l = omega arith
-bits_kept e shown.Stop l = omega arith
-bits_kept e shown.Timeout l = omega arith
-bits_kept e (shown.Bit d) l = bit_kept e d l
+bits_kept e None l = l
+bits_kept e (Some shown.Start) l = omega arith
+bits_kept e (Some shown.Stop) l = omega arith
+bits_kept e (Some shown.Timeout) l = omega arith
+bits_kept e (Some (shown.Bit d)) l = bit_kept e d l
 
 hear_fit : (w : Wire) (s : ℕ) → Fits w → Fits (hear_of w s).wire
 unfolding hear_of lines_after

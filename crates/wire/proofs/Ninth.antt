@@ -7,11 +7,11 @@ use mathlib.Core.List.{List, [], ◌∷◌}
 use lib.Dec.{eqb, ltb}
 use lib.ListN.{length}
 use borrow.Author.Tests.{lt-ltb}
+use Rattle.std.specs.Prelude.{None}
 use Rattle.bits.specs.Bits.{bit}
 use Rattle.event.specs.declared.Event.TheVariants.{Byte, Take}
 use Rattle.wire.specs.Nine.{waiting, joined, bit_to}
 use Rattle.wire.specs.Hear.{events_in}
-use Rattle.wire.specs.declared.Given.TheVariants as given
 use Rattle.wire.specs.Waves.{eight, nine}
 use Rattle.wire.specs.declared.Listening.{Listening}
 use Rattle.wire.specs.declared.Listening.TheVariants.{Nothing, FirstByte, Bytes, Takes}
@@ -103,7 +103,7 @@ pub too_few : (l : Listening) (ds : List Bool) → length ds ≤ 7 → bits_give
 too_few l ds m = few l 0 0 ds (omega (arith, m))
 
 -- Of a byte that the host clocks in, eight are nothing too.
-no_eighth : (t : Bool) → events_in (cond t given.Nothing given.Nothing) ≡ []
+no_eighth : (t : Bool) → events_in (cond t None None) ≡ []
 no_eighth true = refl
 no_eighth false = refl
 

@@ -1,17 +1,10 @@
 -- Words at the start of the places lent. Assumes nothing.
-use Prim.Native.Nat.{ℕ, ◌≤◌}
+use Prim.Native.Nat.{ℕ, ◌<◌, ◌≤◌}
 use native.Mathlib.Omega.{arith}
-use mathlib.Core.Path.{◌≡◌, refl, ◌∙◌}
-use mathlib.Core.List.{List, [], ◌∷◌, ◌++◌, append_assoc}
-use lib.ListN.{length, take, drop, set, length-append, length-drop}
-use lib.Seq.{take-append_seam, drop-append_seam, drop-drop}
+use mathlib.Core.Path.{◌≡◌, refl, ap, ◌∙◌}
+use mathlib.Core.List.{List, [], ◌∷◌, ◌++◌}
+use lib.ListN.{length, drop, set, length-append, length-drop}
 use Rattle.wire.specs.Listen.{written}
-
--- A word put into the first place.
-pub put_first : (places : List ℕ) (w : ℕ) → 1 ≤ length places → set places 0 w ≡ written (w ∷ []) places
-unfolding written
-put_first [] w l = absurd (omega (arith, l))
-put_first (p ∷ places) w l = refl
 
 pub written_none : (places : List ℕ) → written [] places ≡ places
 unfolding written
@@ -21,16 +14,10 @@ pub written_length : (ws places : List ℕ) → length ws ≤ length places → 
 unfolding written
 written_length ws places l = length-append ws (drop (length ws) places) ∙ omega (arith, length-drop (length ws) places)
 
--- Some words, and others right after them.
-pub written_after :
-    (x y places : List ℕ)
-    → take (length x) (written x places) ++ written y (drop (length x) (written x places)) ≡ written (x ++ y) places
+-- Some words, and one right after them.
+pub written_then : (ws : List ℕ) (w : ℕ) (places : List ℕ) → length ws < length places → set (written ws places) (length ws) w ≡ written (ws ++ (w ∷ [])) places
 unfolding written
-written_after x y places =
-    rw (
-      take-append_seam x (drop (length x) places),
-      drop-append_seam x (drop (length x) places),
-      drop-drop (length y) (length x) places,
-      length-append x y,
-      append_assoc,
-    )
+written_then [] w [] l = absurd (omega (arith, l))
+written_then [] w (p ∷ places) l = refl
+written_then (v ∷ ws) w [] l = absurd (omega (arith, l))
+written_then (v ∷ ws) w (p ∷ places) l = ap (λ ps. v ∷ ps) (written_then ws w places (omega (arith, l)))

@@ -5,6 +5,7 @@ use mathlib.Core.Path.{◌≡◌, refl, ◌∙◌}
 use mathlib.Core.Bool.{Bool, true, false}
 use mathlib.Core.List.{List, [], ◌∷◌, ◌++◌}
 use borrow.Author.Tests.{le-leb, ne_eqb}
+use Rattle.std.specs.Prelude.{Option, Some, None}
 use Rattle.bits.specs.Bits.{bit}
 use Rattle.event.specs.declared.Event.{Event}
 use Rattle.event.specs.declared.Event.TheVariants as event
@@ -14,35 +15,32 @@ use Rattle.wire.specs.Hear.{hear_of, after, events_in, events_of}
 use Rattle.wire.specs.declared.Wire.{Wire}
 use Rattle.wire.specs.declared.Ear.{Ear}
 use Rattle.wire.specs.declared.Heard.{Heard}
-use Rattle.wire.specs.declared.Given.{Given}
-use Rattle.wire.specs.declared.Given.TheVariants as given
 use Rattle.wire.specs.declared.Listening.TheVariants.{Nothing, FirstByte}
-use Rattle.wire.specs.declared.Shown.TheVariants as shown
 use Rattle.wire.proofs.Cut.{after_append, events_append}
 
 -- SDAT at d, SCLK low for so many samples, and what is listened for.
 abbrev pub at : Bool → ℕ → Ear → Wire
 at d low e = record { lines = record { sdat = d; low = low }; ear = e }
 
-abbrev pub hears : Wire → Given → Heard
+abbrev pub hears : Wire → Option Event → Heard
 hears w g = record { wire = w; given = g }
 
 -- ---- one sample
 
 module _ (e : Ear) (s : ℕ) where
-  unmoved : (d : Bool) → while_high d d ≡ shown.Nothing
+  unmoved : (d : Bool) → while_high d d ≡ None
   unmoved true = refl
   unmoved false = refl
 
-  pub steady : (d : Bool) → bit 1 s ≡ true → bit 0 s ≡ d → hear_of (at d 0 e) s ≡ hears (at d 0 e) given.Nothing
+  pub steady : (d : Bool) → bit 1 s ≡ true → bit 0 s ≡ d → hear_of (at d 0 e) s ≡ hears (at d 0 e) None
   unfolding hear_of lines_after shown_by tells
   steady d c f = rw (c, f, unmoved d)
 
-  pub falls : bit 1 s ≡ true → bit 0 s ≡ false → hear_of (at true 0 e) s ≡ hears (at false 0 (waiting FirstByte)) (given.Event event.Start)
+  pub falls : bit 1 s ≡ true → bit 0 s ≡ false → hear_of (at true 0 e) s ≡ hears (at false 0 (waiting FirstByte)) (Some event.Start)
   unfolding hear_of lines_after shown_by tells
   falls c f = rw (c, f)
 
-  pub rises : bit 1 s ≡ true → bit 0 s ≡ true → hear_of (at false 0 e) s ≡ hears (at true 0 (waiting Nothing)) (given.Event event.Stop)
+  pub rises : bit 1 s ≡ true → bit 0 s ≡ true → hear_of (at false 0 e) s ≡ hears (at true 0 (waiting Nothing)) (Some event.Stop)
   unfolding hear_of lines_after shown_by tells
   rises c f = rw (c, f)
 
@@ -51,15 +49,15 @@ module _ (e : Ear) (s : ℕ) where
   unfolding hear_of lines_after shown_by tells
   clocked d b k l c f = rw (c, f, ne_eqb k 0 (λ z. omega (arith, z, l)))
 
-  pub waits : (d : Bool) (k : ℕ) → k < 17500 → bit 1 s ≡ false → hear_of (at d k e) s ≡ hears (at (bit 0 s) (k + 1) e) given.Nothing
+  pub waits : (d : Bool) (k : ℕ) → k < 17500 → bit 1 s ≡ false → hear_of (at d k e) s ≡ hears (at (bit 0 s) (k + 1) e) None
   unfolding hear_of lines_after shown_by tells
   waits d k l c = rw (c, ne_eqb k 17500 (λ z. omega (arith, z, l)), le-leb k 17500 (omega arith))
 
-  pub too_long : (d : Bool) → bit 1 s ≡ false → hear_of (at d 17500 e) s ≡ hears (at (bit 0 s) 17501 (waiting Nothing)) (given.Event event.Timeout)
+  pub too_long : (d : Bool) → bit 1 s ≡ false → hear_of (at d 17500 e) s ≡ hears (at (bit 0 s) 17501 (waiting Nothing)) (Some event.Timeout)
   unfolding hear_of lines_after shown_by tells
   too_long d c = rw c
 
-  pub no_more : (d : Bool) → bit 1 s ≡ false → hear_of (at d 17501 e) s ≡ hears (at (bit 0 s) 17501 e) given.Nothing
+  pub no_more : (d : Bool) → bit 1 s ≡ false → hear_of (at d 17501 e) s ≡ hears (at (bit 0 s) 17501 e) None
   unfolding hear_of lines_after shown_by tells
   no_more d c = rw c
 
@@ -75,7 +73,7 @@ unfolding events_of after
 none w = record { events = refl; state = refl }
 
 pub first :
-    {w w' w'' : Wire} {g : Given} {s : ℕ} {ss : List ℕ} {es : List Event} → hear_of w s ≡ hears w' g → Goes w' ss es w''
+    {w w' w'' : Wire} {g : Option Event} {s : ℕ} {ss : List ℕ} {es : List Event} → hear_of w s ≡ hears w' g → Goes w' ss es w''
     → Goes w (s ∷ ss) (events_in g ++ es) w''
 unfolding events_of after
 first h k = record { events = rw (h, k.events); state = rw h k.state }

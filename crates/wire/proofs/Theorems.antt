@@ -8,19 +8,19 @@ use mathlib.Core.List.{List, [], ◌∷◌, ◌++◌, map}
 use lib.ListN.{length}
 use borrow.Author.Tests.{lt-ltb, le-ltb}
 use denote.Ref.{Bor, MutBor}
+use Rattle.std.specs.Prelude.{Option, Result, Ok, Err}
+use Rattle.calls.specs.Numbers.{outcome_refusal, outcome_count}
+use Rattle.calls.specs.declared.Refusal.{Refusal}
+use Rattle.calls.specs.declared.Refusal.TheVariants.{Unfit, TooFewPlaces, TooMany}
 use Rattle.event.specs.Words.{word_of}
 use Rattle.event.specs.declared.Event.{Event}
 use Rattle.wire.specs.Record.{fresh_wire, fits}
 use Rattle.wire.specs.Hear.{hear_of, after, events_of, spelled, words_of}
 use Rattle.wire.specs.Listen.{outcome_of, state_by, places_by}
-use Rattle.wire.specs.Outcome.{outcome_refusal, outcome_count}
 use Rattle.wire.specs.Waves.{Wave}
 use Rattle.wire.specs.declared.Wire.{Wire}
 use Rattle.wire.specs.declared.Heard.{Heard}
 use Rattle.wire.specs.declared.Listened.{Listened}
-use Rattle.wire.specs.declared.Loaded.{Loaded}
-use Rattle.wire.specs.declared.Outcome.{Outcome}
-use Rattle.wire.specs.declared.Outcome.TheVariants.{Done, Unfit, TooFewPlaces, TooManySamples}
 use Rattle.wire.proofs.Cut.{after_append, words_append, at_most_one, words_most}
 use Rattle.wire.proofs.Spoken.{words_of_events}
 use Rattle.wire.proofs.Waves.{heard}
@@ -28,8 +28,6 @@ use Rattle.wire.proofs.listen.listen.Reads as listen_reads
 use Rattle.wire.proofs.Wire.hear.Reads as hear_reads
 use Rattle.wire.proofs.Wire.fresh.Reads as fresh_reads
 use Rattle.wire.proofs.Wire.fit.Reads as fit_reads
-use Rattle.wire.proofs.Outcome.refusal.Reads as refusal_reads
-use Rattle.wire.proofs.Outcome.count.Reads as count_reads
 use Rattle.wire.proofs.image.save.Reads as save_reads
 use Rattle.wire.proofs.image.load.Reads as load_reads
 
@@ -86,13 +84,13 @@ cut_anywhere w (b ∷ bs) =
 
 pub record Cases (w : Wire) (ss : List ℕ) (places : ℕ) : Type 0 where
   -- 1: a held state with over 8 bits or a low run over 17,501.
-  pub one : fits w ≡ false → outcome_of w ss places ≡ Unfit
+  pub one : fits w ≡ false → outcome_of w ss places ≡ Err Unfit
   -- 5: over 16,384 samples.
-  pub five : fits w ≡ true → 16384 < length ss → outcome_of w ss places ≡ TooManySamples
+  pub five : fits w ≡ true → 16384 < length ss → outcome_of w ss places ≡ Err TooMany
   -- 4: fewer places than samples.
-  pub four : fits w ≡ true → length ss ≤ 16384 → places < length ss → outcome_of w ss places ≡ TooFewPlaces
+  pub four : fits w ≡ true → length ss ≤ 16384 → places < length ss → outcome_of w ss places ≡ Err TooFewPlaces
   -- 0: none of these; the count is the number of words.
-  pub none : fits w ≡ true → length ss ≤ 16384 → length ss ≤ places → outcome_of w ss places ≡ Done (length (words_of w ss))
+  pub none : fits w ≡ true → length ss ≤ 16384 → length ss ≤ places → outcome_of w ss places ≡ Ok (length (words_of w ss))
 
 pub by_case : (w : Wire) (ss : List ℕ) (places : ℕ) → Cases w ss places
 unfolding outcome_of
@@ -105,16 +103,14 @@ by_case w ss places =
     }
 
 -- Refused: the held state as given, count 0, nothing written.
-pub record Untouched (o : Outcome) (w : Wire) (ss places : List ℕ) : Type 0 where
+pub record Untouched (o : Result ℕ Refusal) (w : Wire) (ss places : List ℕ) : Type 0 where
   pub state : state_by o w ss ≡ w
   pub words : places_by o w ss places ≡ places
   pub count : outcome_count o ≡ 0
 
-pub refused_untouched : (o : Outcome) (w : Wire) (ss places : List ℕ) → outcome_refusal o ≢ 0 → Untouched o w ss places
-refused_untouched (Done n) w ss places h = absurd (h refl)
-refused_untouched Unfit w ss places h = record { state = refl; words = refl; count = refl }
-refused_untouched TooFewPlaces w ss places h = record { state = refl; words = refl; count = refl }
-refused_untouched TooManySamples w ss places h = record { state = refl; words = refl; count = refl }
+pub refused_untouched : (o : Result ℕ Refusal) (w : Wire) (ss places : List ℕ) → outcome_refusal o ≢ 0 → Untouched o w ss places
+refused_untouched (Ok n) w ss places h = absurd (h refl)
+refused_untouched (Err r) w ss places h = record { state = refl; words = refl; count = refl }
 
 -- ---- the contracts determine their answers
 
@@ -124,12 +120,6 @@ fresh_determined r r' p q = p ∙ sym q
 pub fit_determined : (w : Wire) (r r' : Bool) → fit_reads.Post tt (w, tt) r (w, tt) → fit_reads.Post tt (w, tt) r' (w, tt) → r ≡ r'
 fit_determined w r r' p q = p ∙ sym q
 
-pub refusal_determined : (o : Outcome) (r r' : ℕ) → refusal_reads.Post tt (o, tt) r (o, tt) → refusal_reads.Post tt (o, tt) r' (o, tt) → r ≡ r'
-refusal_determined o r r' p q = p ∙ sym q
-
-pub count_determined : (o : Outcome) (r r' : ℕ) → count_reads.Post tt (o, tt) r (o, tt) → count_reads.Post tt (o, tt) r' (o, tt) → r ≡ r'
-count_determined o r r' p q = p ∙ sym q
-
 pub hear_determined : (w : Wire) (s : ℕ) (r r' : Heard) → hear_reads.Post tt (w, (s, tt)) r (w, (s, tt)) → hear_reads.Post tt (w, (s, tt)) r' (w, (s, tt)) → r ≡ r'
 hear_determined w s r r' p q = p ∙ sym q
 
@@ -137,7 +127,7 @@ pub save_determined : (w : Wire) (r r' : List ℕ) → save_reads.Post tt (w, tt
 save_determined w r r' p q = p ∙ sym q
 
 pub load_determined :
-    (κs : _) (bytes : Bor (List ℕ)) (r r' : Loaded) → load_reads.Post κs (bytes, tt) r (bytes, tt) → load_reads.Post κs (bytes, tt) r' (bytes, tt) → r ≡ r'
+    (κs : _) (bytes : Bor (List ℕ)) (r r' : Option Wire) → load_reads.Post κs (bytes, tt) r (bytes, tt) → load_reads.Post κs (bytes, tt) r' (bytes, tt) → r ≡ r'
 load_determined κs bytes r r' p q = p ∙ sym q
 
 -- Of the call also the places that it leaves.

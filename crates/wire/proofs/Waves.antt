@@ -5,6 +5,7 @@ use native.Mathlib.Omega.{arith}
 use mathlib.Core.Path.{◌≡◌, refl, ap, ◌∙◌}
 use mathlib.Core.Bool.{Bool, true, false, cond}
 use mathlib.Core.List.{List, [], ◌∷◌, ◌++◌}
+use Rattle.std.specs.Prelude.{None}
 use Rattle.event.specs.declared.Event.{Event}
 use Rattle.event.specs.declared.Event.TheVariants as event
 use Rattle.wire.specs.Nine.{waiting, bit_to, told}
@@ -12,7 +13,6 @@ use Rattle.wire.specs.Hear.{events_of}
 use Rattle.wire.specs.Waves.{High, Pulse, Sends, Clocks, Follows, Wave}
 use Rattle.wire.specs.declared.Wire.{Wire}
 use Rattle.wire.specs.declared.Ear.{Ear}
-use Rattle.wire.specs.declared.Given.TheVariants as given
 use Rattle.wire.specs.declared.Listening.{Listening}
 use Rattle.wire.specs.declared.Listening.TheVariants.{Nothing, FirstByte, Bytes, Takes}
 use Rattle.wire.proofs.Cut.{events_append}
@@ -57,7 +57,7 @@ abbrev pub Ready : Bool → Ear → Type 0
 Ready true e = Unit {0}
 Ready false e = e.listening ≡ Nothing
 
-deaf : (e : Ear) (b : Bool) → e.listening ≡ Nothing → bit_to e b ≡ told e given.Nothing
+deaf : (e : Ear) (b : Bool) → e.listening ≡ Nothing → bit_to e b ≡ told e None
 unfolding bit_to
 deaf e b n = rw n
 

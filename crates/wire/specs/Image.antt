@@ -1,13 +1,12 @@
 -- The held state as bytes: the layout's version, SDAT, what is listened for, the bits that have come, their value, and the low run, high
 -- byte first.
-use Rattle.std.specs.Prelude.{ℕ, ◌/◌, ◌%◌, Bool, cond, ◌&&◌, List, [], ◌∷◌, eqb, leb, length, get_or}
+use Rattle.std.specs.Prelude.{ℕ, ◌/◌, ◌%◌, Bool, cond, ◌&&◌, Option, Some, None, Result, Ok, Err, List, [], ◌∷◌, eqb, leb, length, get_or}
 use Rattle.pairs.specs.Pairs.{wide}
 use Rattle.bits.specs.Bits.{put}
 use Rattle.wire.specs.declared.Wire.{Wire}
 use Rattle.wire.specs.declared.Listening.{Listening}
 use Rattle.wire.specs.declared.Listening.TheVariants.{Nothing, FirstByte, Bytes, Takes}
-use Rattle.wire.specs.declared.Loaded.{Loaded}
-use Rattle.wire.specs.declared.Loaded.TheVariants.{Held, NoImage}
+use Rattle.wire.specs.declared.image.UnknownListening.{UnknownListening}
 
 abbrev pub LAYOUT : ℕ
 LAYOUT = 1
@@ -24,6 +23,10 @@ listening_number Takes = 3
 
 abbrev pub listening_by : ℕ → Listening
 listening_by n = get_or (Nothing ∷ FirstByte ∷ Bytes ∷ Takes ∷ []) n Nothing
+
+-- .. and no other number is one of these.
+abbrev pub listening_in : ℕ → Result Listening UnknownListening
+listening_in n = cond (leb n 3) (Ok (listening_by n)) (Err (record {}))
 
 unfoldable pub saved : Wire → List ℕ
 saved w =
@@ -51,5 +54,5 @@ wire_in bytes =
     }
 
 -- Every byte string is answered.
-unfoldable pub load_of : List ℕ → Loaded
-load_of bytes = cond (is_image bytes) (Held (wire_in bytes)) NoImage
+unfoldable pub load_of : List ℕ → Option Wire
+load_of bytes = cond (is_image bytes) (Some (wire_in bytes)) None

@@ -1,9 +1,9 @@
 -- The two lines (document 02, request 7): a sample byte's bit 1 is SCLK, bit 0 SDAT, others are ignored.
-use Rattle.std.specs.Prelude.{ℕ, ◌+◌, Bool, true, false, cond, eqb, leb}
+use Rattle.std.specs.Prelude.{ℕ, ◌+◌, Bool, true, false, cond, Option, Some, None, eqb, leb}
 use Rattle.bits.specs.Bits.{bit}
 use Rattle.wire.specs.declared.Lines.{Lines}
 use Rattle.wire.specs.declared.Shown.{Shown}
-use Rattle.wire.specs.declared.Shown.TheVariants.{Nothing, Start, Stop, Timeout, Bit}
+use Rattle.wire.specs.declared.Shown.TheVariants.{Start, Stop, Timeout, Bit}
 
 abbrev pub sclk : ℕ → Bool
 sclk sample = bit 1 sample
@@ -24,27 +24,19 @@ unfoldable pub lines_after : Lines → ℕ → Lines
 lines_after l sample = record { sdat = sdat sample; low = run_after (sclk sample) l.low }
 
 -- START and STOP are SDAT falling and rising while SCLK stays high.
-abbrev pub while_high : Bool → Bool → Shown
-while_high true true = Nothing
-while_high true false = Start
-while_high false true = Stop
-while_high false false = Nothing
+abbrev pub while_high : Bool → Bool → Option Shown
+while_high true true = None
+while_high true false = Some Start
+while_high false true = Some Stop
+while_high false false = None
 
 -- A bit is SDAT at the first high sample of SCLK.
-abbrev pub when_high : Lines → Bool → Shown
-when_high l now = cond (eqb l.low 0) (while_high l.sdat now) (Bit now)
+abbrev pub when_high : Lines → Bool → Option Shown
+when_high l now = cond (eqb l.low 0) (while_high l.sdat now) (Some (Bit now))
 
 -- TIMEOUT comes with the 17,501st low sample, once.
-abbrev pub when_low : Lines → Shown
-when_low l = cond (eqb l.low MOST_LOW) Timeout Nothing
+abbrev pub when_low : Lines → Option Shown
+when_low l = cond (eqb l.low MOST_LOW) (Some Timeout) None
 
-unfoldable pub shown_by : Lines → ℕ → Shown
+unfoldable pub shown_by : Lines → ℕ → Option Shown
 shown_by l sample = cond (sclk sample) (when_high l (sdat sample)) (when_low l)
-
--- There is something to be heard.
-abbrev pub is_telling : Shown → Bool
-is_telling Nothing = false
-is_telling Start = true
-is_telling Stop = true
-is_telling Timeout = true
-is_telling (Bit now) = true

@@ -2,7 +2,6 @@ pub mod Levels
 pub mod Nine
 pub mod Record
 pub mod Hear
-pub mod Outcome
 pub mod Listen
 pub mod Image
 pub mod Waves

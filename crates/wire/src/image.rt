@@ -1,10 +1,9 @@
 // The held state as bytes: `save` writes them, and `load` answers any bytes at all.
-ghost use Rattle.std.specs.Prelude.{◌≡◌, length};
-ghost use Rattle.wire.specs.Image.{BYTES, listening_number, listening_by, saved, wire_in, load_of};
+ghost use Rattle.std.specs.Prelude.{◌≡◌};
+ghost use Rattle.wire.specs.Image.{listening_number, listening_in, saved, load_of};
 
-use crate::{Ear, Lines, Listening, Loaded, Wire};
-use bits::put;
-use pairs::wide;
+use crate::{Ear, Lines, Listening, Wire};
+use pairs::{two_bytes, wide};
 
 // The version rises whenever a byte, what it may hold or the length changes.
 pub const LAYOUT: u8 = 1;
@@ -24,29 +23,35 @@ pub const VALUE: usize = 4;
 // The low run: its high byte, and the low one after it.
 pub const LOW: usize = 5;
 
-// The last number of what is listened for.
-const LAST_LISTENING: u8 = 3;
+// No number of what is listened for.
+#[derive(Clone, Copy, PartialEq, Eq, Debug)]
+pub struct UnknownListening;
 
-impl Listening {
-    fn number(self) -> u8
-        ensures { result ≡ listening_number self }
-    {
-        match self {
+impl From<Listening> for u8 {
+    ghost from_gives = { λ l n. n ≡ listening_number l };
+
+    fn from(listening: Listening) -> u8 {
+        match listening {
             Listening::Nothing => 0,
             Listening::FirstByte => 1,
             Listening::Bytes => 2,
             Listening::Takes => 3,
         }
     }
+}
 
-    fn by(number: u8) -> Listening
-        ensures { result ≡ listening_by number }
-    {
+impl TryFrom<u8> for Listening {
+    type Error = UnknownListening;
+
+    ghost try_from_gives = { λ n r. r ≡ listening_in n };
+
+    fn try_from(number: u8) -> Result<Listening, UnknownListening> {
         match number {
-            1 => Listening::FirstByte,
-            2 => Listening::Bytes,
-            3 => Listening::Takes,
-            _ => Listening::Nothing,
+            0 => Ok(Listening::Nothing),
+            1 => Ok(Listening::FirstByte),
+            2 => Ok(Listening::Bytes),
+            3 => Ok(Listening::Takes),
+            _ => Err(UnknownListening),
         }
     }
 }
@@ -55,49 +60,36 @@ impl Listening {
 pub fn save(wire: Wire) -> [u8; BYTES]
     ensures { result ≡ saved wire }
 {
-    let ear = wire.ear;
-    let listening = ear.listening;
-    let low = wire.lines.low;
+    let [high, low] = two_bytes(wire.lines.low);
     [
         LAYOUT,
-        put(wire.lines.sdat, 1),
-        listening.number(),
-        ear.bits,
-        ear.value,
-        (low / 256) as u8,
-        (low % 256) as u8,
+        u8::from(wire.lines.sdat),
+        u8::from(wire.ear.listening),
+        wire.ear.bits,
+        wire.ear.value,
+        high,
+        low,
     ]
 }
 
-// The held state of an image.
-#[tactic(auto, unfolding(crate::specs::Image::wire_in))]
-fn wire_in(image: &[u8]) -> Wire
-    requires { length image.now ≡ BYTES }
-    ensures { result ≡ wire_in image.now }
+// The held state of an image, fit or not; other bytes are none.
+#[tactic(auto, unfolding(crate::specs::Image::load_of, crate::specs::Image::is_image))]
+pub fn load(image: &[u8]) -> Option<Wire>
+    ensures { result ≡ load_of image.now }
 {
-    Wire {
+    if image.len() != BYTES || image[VERSION] != LAYOUT || 1 < image[SDAT] {
+        return None;
+    }
+    let listening = Listening::try_from(image[LISTENING]).ok()?;
+    Some(Wire {
         lines: Lines {
             sdat: image[SDAT] == 1,
             low: wide(image[LOW], image[LOW + 1]),
         },
         ear: Ear {
-            listening: Listening::by(image[LISTENING]),
+            listening,
             bits: image[BITS],
             value: image[VALUE],
         },
-    }
-}
-
-// The held state of an image, fit or not; other bytes are none.
-#[tactic(auto, unfolding(crate::specs::Image::load_of, crate::specs::Image::is_image))]
-pub fn load(image: &[u8]) -> Loaded
-    ensures { result ≡ load_of image.now }
-{
-    if image.len() != BYTES {
-        return Loaded::NoImage;
-    }
-    if (image[VERSION] == LAYOUT) & (image[SDAT] <= 1) & (image[LISTENING] <= LAST_LISTENING) {
-        return Loaded::Held(wire_in(image));
-    }
-    Loaded::NoImage
+    })
 }

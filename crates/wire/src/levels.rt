@@ -1,6 +1,6 @@
 // The two lines, sample by sample: what moved, and for how long SCLK has been low.
 ghost use Rattle.std.specs.Prelude.{◌≡◌};
-ghost use Rattle.wire.specs.Levels.{sclk, sdat, lines_after, is_telling, while_high, shown_by};
+ghost use Rattle.wire.specs.Levels.{sclk, sdat, lines_after, while_high, shown_by};
 
 use crate::{Lines, Shown};
 use bits::has;
@@ -19,28 +19,13 @@ fn sdat(sample: u8) -> bool
 }
 
 // SDAT before and now, while SCLK stays high.
-fn while_high(before: bool, now: bool) -> Shown
+fn while_high(before: bool, now: bool) -> Option<Shown>
     ensures { result ≡ while_high before «now» }
 {
-    if before {
-        if now { Shown::Nothing } else { Shown::Start }
-    } else {
-        if now { Shown::Stop } else { Shown::Nothing }
-    }
-}
-
-impl Shown {
-    // There is something to be heard.
-    pub(crate) fn tells(self) -> bool
-        ensures { result ≡ is_telling self }
-    {
-        match self {
-            Shown::Nothing => false,
-            Shown::Start => true,
-            Shown::Stop => true,
-            Shown::Timeout => true,
-            Shown::Bit(_) => true,
-        }
+    match (before, now) {
+        (true, false) => Some(Shown::Start),
+        (false, true) => Some(Shown::Stop),
+        (true, true) | (false, false) => None,
     }
 }
 
@@ -53,38 +38,34 @@ impl Lines {
     pub(crate) fn after(self, sample: u8) -> Lines
         ensures { result ≡ lines_after self sample }
     {
-        let sdat = sdat(sample);
-        if sclk(sample) {
-            return Lines { sdat, low: 0 };
-        }
-        if self.low <= Lines::MOST_LOW {
-            return Lines {
-                sdat,
-                low: self.low + 1,
-            };
-        }
+        let low = if sclk(sample) {
+            0
+        } else if self.low <= Lines::MOST_LOW {
+            self.low + 1
+        } else {
+            self.low
+        };
         Lines {
-            sdat,
-            low: self.low,
+            sdat: sdat(sample),
+            low,
         }
     }
 
     // What a sample shows.
     #[tactic(auto, unfolding(crate::specs::Levels::shown_by))]
-    pub(crate) fn shown(self, sample: u8) -> Shown
+    pub(crate) fn shown(self, sample: u8) -> Option<Shown>
         ensures { result ≡ shown_by self sample }
     {
-        let sdat = sdat(sample);
         if !sclk(sample) {
             return if self.low == Lines::MOST_LOW {
-                Shown::Timeout
+                Some(Shown::Timeout)
             } else {
-                Shown::Nothing
+                None
             };
         }
         if 0 < self.low {
-            return Shown::Bit(sdat);
+            return Some(Shown::Bit(sdat(sample)));
         }
-        while_high(self.sdat, sdat)
+        while_high(self.sdat, sdat(sample))
     }
 }

@@ -8,6 +8,7 @@ pub mod listen;
 mod nine;
 mod record;
 
+use calls::Outcome;
 use event::Event;
 
 // The lines as the last sample showed them.
@@ -19,7 +20,7 @@ pub struct Lines {
 }
 
 // What the bits that come are part of.
-#[derive(Clone, Copy)]
+#[derive(Clone, Copy, PartialEq, Eq, Debug)]
 pub enum Listening {
     // Bits count for nothing until a START.
     Nothing,
@@ -46,10 +47,9 @@ pub struct Wire {
     pub ear: Ear,
 }
 
-// What a sample shows, beside the lines as they were.
-#[derive(Clone, Copy)]
+// What a sample can show, beside the lines as they were.
+#[derive(Clone, Copy, PartialEq, Eq, Debug)]
 pub enum Shown {
-    Nothing,
     // SDAT fell, or rose, while SCLK stayed high.
     Start,
     Stop,
@@ -59,50 +59,23 @@ pub enum Shown {
     Bit(bool),
 }
 
-// The event that a sample gives, at most one.
-#[derive(Clone, Copy)]
-pub enum Given {
-    Nothing,
-    Event(Event),
-}
-
-// What the ear makes of a sample.
+// What the ear makes of a sample: at most one event.
 #[derive(Clone, Copy)]
 pub struct Told {
     pub ear: Ear,
-    pub given: Given,
+    pub given: Option<Event>,
 }
 
 // After a sample.
 #[derive(Clone, Copy)]
 pub struct Heard {
     pub wire: Wire,
-    pub given: Given,
+    pub given: Option<Event>,
 }
 
-// What the call over samples answers.
-#[derive(Clone, Copy)]
-pub enum Outcome {
-    // So many words were written.
-    Done(usize),
-    // The held state isn't fit.
-    Unfit,
-    // Fewer places for words than samples.
-    TooFewPlaces,
-    // Over 16,384 samples.
-    TooManySamples,
-}
-
+// What the call over samples answers: how many words were written, or why it was refused.
 #[derive(Clone, Copy)]
 pub struct Listened {
     pub wire: Wire,
     pub outcome: Outcome,
-}
-
-// What bytes are.
-#[derive(Clone, Copy)]
-pub enum Loaded {
-    // The image of this held state, fit or not.
-    Held(Wire),
-    NoImage,
 }

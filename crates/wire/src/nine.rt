@@ -1,9 +1,9 @@
 // What is made of what the lines show: nine bits become a byte from the host, or a TAKE.
 ghost use Rattle.std.specs.Prelude.{◌≡◌, ◌<◌};
-ghost use Rattle.wire.specs.Nine.{listens, waiting, dropped, joined, eighth, collects, after_ninth, at_ninth, ninth, bit_to, tells};
+ghost use Rattle.wire.specs.Nine.{listens, waiting, dropped, told, joined, eighth, collects, after_ninth, at_ninth, ninth, bit_to, tells};
 
-use crate::{Ear, Given, Listening, Shown, Told};
-use bits::{has, put};
+use crate::{Ear, Listening, Shown, Told};
+use bits::has;
 use event::Event;
 
 impl Listening {
@@ -11,35 +11,26 @@ impl Listening {
     fn listens(self) -> bool
         ensures { result ≡ listens self }
     {
-        match self {
-            Listening::Nothing => false,
-            Listening::FirstByte => true,
-            Listening::Bytes => true,
-            Listening::Takes => true,
-        }
+        self != Listening::Nothing
     }
 
     // What the eighth bit gives: a byte from the host is whole.
-    fn eighth(self, value: u8) -> Given
+    fn eighth(self, value: u8) -> Option<Event>
         ensures { result ≡ eighth self value }
     {
         match self {
-            Listening::Nothing => Given::Nothing,
-            Listening::FirstByte => Given::Event(Event::Byte(value)),
-            Listening::Bytes => Given::Event(Event::Byte(value)),
-            Listening::Takes => Given::Nothing,
+            Listening::FirstByte | Listening::Bytes => Some(Event::Byte(value)),
+            Listening::Nothing | Listening::Takes => None,
         }
     }
 
     // What the ninth gives: low is the ACK of a host that clocks a byte in; of the host's own byte it is passed over.
-    fn ninth(self, sdat: bool) -> Given
+    fn ninth(self, sdat: bool) -> Option<Event>
         ensures { result ≡ at_ninth self «sdat» }
     {
         match self {
-            Listening::Nothing => Given::Nothing,
-            Listening::FirstByte => Given::Nothing,
-            Listening::Bytes => Given::Nothing,
-            Listening::Takes => Given::Event(Event::Take(!sdat)),
+            Listening::Takes => Some(Event::Take(!sdat)),
+            Listening::Nothing | Listening::FirstByte | Listening::Bytes => None,
         }
     }
 
@@ -48,16 +39,9 @@ impl Listening {
         ensures { result ≡ after_ninth self value }
     {
         match self {
-            Listening::Nothing => Listening::Nothing,
-            Listening::FirstByte => {
-                if has(value, 1) {
-                    Listening::Takes
-                } else {
-                    Listening::Bytes
-                }
-            }
-            Listening::Bytes => Listening::Bytes,
-            Listening::Takes => Listening::Takes,
+            Listening::FirstByte if has(value, 1) => Listening::Takes,
+            Listening::FirstByte => Listening::Bytes,
+            Listening::Nothing | Listening::Bytes | Listening::Takes => self,
         }
     }
 }
@@ -88,7 +72,7 @@ impl Ear {
     fn joined(value: u8, sdat: bool) -> u8
         ensures { result ≡ joined value «sdat» }
     {
-        value % 128 * 2 + put(sdat, 1)
+        value % 128 * 2 + u8::from(sdat)
     }
 
     // One of the first eight bits, most significant first.
@@ -96,23 +80,20 @@ impl Ear {
         requires { self.bits < 8 }
         ensures { result ≡ collects self «sdat» }
     {
-        let listening = self.listening;
         let bits = self.bits + 1;
         let value = Ear::joined(self.value, sdat);
-        let ear = Ear {
-            listening,
-            bits,
-            value,
+        let given = if bits < Ear::BITS {
+            None
+        } else {
+            self.listening.eighth(value)
         };
-        if bits < Ear::BITS {
-            return Told {
-                ear,
-                given: Given::Nothing,
-            };
-        }
         Told {
-            ear,
-            given: listening.eighth(value),
+            ear: Ear {
+                bits,
+                value,
+                ..self
+            },
+            given,
         }
     }
 
@@ -120,10 +101,9 @@ impl Ear {
     fn ninth(self, sdat: bool) -> Told
         ensures { result ≡ ninth self «sdat» }
     {
-        let listening = self.listening;
         Told {
-            ear: Ear::waiting(listening.after_ninth(self.value)),
-            given: listening.ninth(sdat),
+            ear: Ear::waiting(self.listening.after_ninth(self.value)),
+            given: self.listening.ninth(sdat),
         }
     }
 
@@ -132,11 +112,10 @@ impl Ear {
     fn bit(self, sdat: bool) -> Told
         ensures { result ≡ bit_to self «sdat» }
     {
-        let listening = self.listening;
-        if !listening.listens() {
+        if !self.listening.listens() {
             return Told {
                 ear: self,
-                given: Given::Nothing,
+                given: None,
             };
         }
         if self.bits < Ear::BITS {
@@ -146,28 +125,25 @@ impl Ear {
         }
     }
 
-    // What the lines show. START, STOP and TIMEOUT drop what has come of a byte.
+    // START, STOP and TIMEOUT drop what has come of a byte.
+    fn dropped_at(self, listening: Listening, event: Event) -> Told
+        ensures { result ≡ told (dropped self listening) (Some event) }
+    {
+        Told {
+            ear: self.dropped(listening),
+            given: Some(event),
+        }
+    }
+
+    // What the lines show.
     #[tactic(auto, unfolding(crate::specs::Nine::tells))]
     pub(crate) fn hears(self, shown: Shown) -> Told
-        ensures { result ≡ tells self shown }
+        ensures { result ≡ tells self (Some shown) }
     {
         match shown {
-            Shown::Nothing => Told {
-                ear: self,
-                given: Given::Nothing,
-            },
-            Shown::Start => Told {
-                ear: self.dropped(Listening::FirstByte),
-                given: Given::Event(Event::Start),
-            },
-            Shown::Stop => Told {
-                ear: self.dropped(Listening::Nothing),
-                given: Given::Event(Event::Stop),
-            },
-            Shown::Timeout => Told {
-                ear: self.dropped(Listening::Nothing),
-                given: Given::Event(Event::Timeout),
-            },
+            Shown::Start => self.dropped_at(Listening::FirstByte, Event::Start),
+            Shown::Stop => self.dropped_at(Listening::Nothing, Event::Stop),
+            Shown::Timeout => self.dropped_at(Listening::Nothing, Event::Timeout),
             Shown::Bit(sdat) => self.bit(sdat),
         }
     }

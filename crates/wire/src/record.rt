@@ -3,7 +3,7 @@ ghost use Rattle.std.specs.Prelude.{◌≡◌};
 ghost use Rattle.wire.specs.Record.{fresh_wire, fits};
 ghost use Rattle.wire.specs.Hear.{hear_of};
 
-use crate::{Ear, Given, Heard, Lines, Listening, Wire};
+use crate::{Ear, Heard, Lines, Listening, Told, Wire};
 
 impl Wire {
     // Both lines are high, and nothing is listened for.
@@ -31,21 +31,16 @@ impl Wire {
     pub fn hear(self, sample: u8) -> Heard
         ensures { result ≡ hear_of self sample }
     {
-        let before = self.lines;
-        let ear = self.ear;
-        let shown = before.shown(sample);
-        let lines = before.after(sample);
-        if !shown.tells() {
+        let lines = self.lines.after(sample);
+        let Some(shown) = self.lines.shown(sample) else {
             return Heard {
-                wire: Wire { lines, ear },
-                given: Given::Nothing,
+                wire: Wire { lines, ..self },
+                given: None,
             };
-        }
-        let told = ear.hears(shown);
-        let next = told.ear;
-        let given = told.given;
+        };
+        let Told { ear, given } = self.ear.hears(shown);
         Heard {
-            wire: Wire { lines, ear: next },
+            wire: Wire { lines, ear },
             given,
         }
     }

@@ -9,13 +9,13 @@ const RESET: u64 = 0xC0BF;
 const EVENTS: [(&str, u64); 3] = [("TICK", 0xA000), ("PINS", 0x80BF), ("START", 0x0000)];
 
 /// The variant of an answer that refuses nothing.
-const DONE: usize = 0;
+const OK: usize = 0;
 
 /// The next state, and what the call copied.
 fn call(program: &Program, name: &str, arguments: Vec<Value>) -> (Value, Copies) {
     let mut copies = Copies::new();
     let answered = program.call(name, arguments, size(program, "bay::Bay"), &mut copies);
-    assert!(matches!(answered.field(1), Value::Variant(DONE, _)), "these words are never refused");
+    assert!(matches!(answered.field(1), Value::Variant(OK, _)), "these words are never refused");
     (answered.field(0).clone(), copies)
 }
 

@@ -5,7 +5,8 @@
 pub enum Json {
     Null,
     Flag(bool),
-    Number(i128),
+    /// Its digits, as one may have more than 64 bits.
+    Number(String),
     Text(String),
     List(Vec<Json>),
     Record(Vec<(String, Json)>),
@@ -57,7 +58,7 @@ impl Json {
 
     pub fn number(&self) -> u64 {
         match self {
-            Json::Number(number) => u64::try_from(*number).expect("a number of 64 bits"),
+            Json::Number(digits) => digits.parse().expect("a number of 64 bits"),
             other => panic!("{:?} is no number", other),
         }
     }
@@ -144,7 +145,8 @@ impl Reader<'_> {
                 "null" => Json::Null,
                 "true" => Json::Flag(true),
                 "false" => Json::Flag(false),
-                word => Json::Number(word.parse().unwrap_or_else(|_| panic!("`{}` is no value", word))),
+                word if word.bytes().any(|byte| byte.is_ascii_alphabetic()) => panic!("`{}` is no value", word),
+                digits => Json::Number(digits.to_string()),
             },
         }
     }

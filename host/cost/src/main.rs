@@ -1,10 +1,10 @@
 //! Counts the records that the program copies in a call, as it is written and before it is compiled.
 //!
-//!     cat crates/*/out/rlib/*.rlib/toolchain/mir.json | cost [queue]
+//!     cat {crates/*/out/rlib/*,KIT/rlibs/core}.rlib/toolchain/mir.json | cost [queue]
 //!
-//! It reads the program as the toolchain keeps it beside each proved library, and runs calls of it. A copy is a value of at
-//! least a certain size that is passed, returned, put into another record or taken out of one. The compiler may leave
-//! copies out.
+//! It reads the program as the toolchain keeps it beside each proved library and its own, and runs calls of it. A
+//! copy is a value of at least a certain size that is passed, returned, put into another record or taken out of one.
+//! The compiler may leave copies out.
 
 mod controller;
 mod json;
@@ -19,7 +19,7 @@ use run::{Copies, Program};
 use types::Type;
 
 fn size(program: &Program, name: &str) -> usize {
-    program.types.size(&Type::Named(name.to_string()))
+    program.types.size(&Type::Named(name.to_string(), Vec::new()))
 }
 
 /// A line: how many, of what call, and of what.

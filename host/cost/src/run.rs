@@ -3,7 +3,7 @@
 use std::collections::{BTreeMap, HashMap};
 
 use crate::json::Json;
-use crate::types::{literal, type_of, Declared, Type, Types};
+use crate::types::{literal, type_of, types_of, Declared, Type, Types};
 
 #[derive(Clone, Debug)]
 pub enum Value {
@@ -51,7 +51,30 @@ pub type Copies = BTreeMap<String, usize>;
 
 pub struct Program<'a> {
     functions: HashMap<&'a str, &'a Json>,
-    pub types: Types,
+    /// The functions of each impl, in its trait's order.
+    methods: HashMap<&'a str, &'a Json>,
+    pub types: Types<'a>,
+}
+
+/// What stands for the parameters of a function or an impl: types, and an impl for each bound on them.
+#[derive(Clone, Default)]
+struct Given {
+    types: Vec<Type>,
+    impls: Vec<Impl>,
+}
+
+#[derive(Clone)]
+struct Impl {
+    name: String,
+    given: Given,
+}
+
+impl Given {
+    fn and(mut self, more: Given) -> Given {
+        self.types.extend(more.types);
+        self.impls.extend(more.impls);
+        self
+    }
 }
 
 /// A function's body, which stands in the program as a list: each statement before those that are inside it.
@@ -95,8 +118,10 @@ impl<'a> Statement<'a> {
     }
 }
 
-/// A call that is running; or, beneath the first one, what it is lent, and the program's tables.
+/// A call that is running; or, beneath the first one, what it is lent, and the program's constants.
+#[derive(Default)]
 struct Frame {
+    given: Given,
     types: Vec<Type>,
     locals: Vec<Option<Value>>,
 }
@@ -104,19 +129,32 @@ struct Frame {
 impl<'a> Program<'a> {
     /// Of each library a list of its functions, each a name and what it is.
     pub fn new(libraries: &'a [Json]) -> Program<'a> {
-        let mut functions = HashMap::new();
-        let mut types = Types::default();
+        let mut program = Program { functions: HashMap::new(), methods: HashMap::new(), types: Types::default() };
         for named in libraries.iter().flat_map(Json::list) {
-            functions.insert(named.at(0).text(), named.at(1));
-            named.at(1).field("types").list().iter().for_each(|declared| types.declare(declared));
+            program.functions.insert(named.at(0).text(), named.at(1));
+            program.declare(named.at(1));
         }
-        Program { functions, types }
+        program
+    }
+
+    /// The types and the impls that stand with a function.
+    fn declare(&mut self, function: &'a Json) {
+        for declared in function.field("types").list() {
+            self.types.declare(declared);
+        }
+        for declared in function.field("generics").field("impls").list() {
+            self.methods.insert(declared.field("name").text(), declared.field("methods"));
+        }
+    }
+
+    fn method(&self, of: &str, index: usize) -> String {
+        let methods = self.methods.get(of).unwrap_or_else(|| panic!("there is no impl `{}`", of));
+        methods.at(index).text().to_string()
     }
 
     /// The function's result. Each copy of a value that has at least `least` bytes is added to `copies`.
     pub fn call(&self, name: &str, arguments: Vec<Value>, least: usize, copies: &mut Copies) -> Value {
-        let beneath = Frame { types: Vec::new(), locals: Vec::new() };
-        Run { program: self, least, copies, frames: vec![beneath] }.result(name, arguments)
+        Run { program: self, least, copies, frames: vec![Frame::default()] }.result(name, Given::default(), arguments)
     }
 
     /// The same of a function whose first argument is bytes that are lent to it.
@@ -132,8 +170,9 @@ impl<'a> Program<'a> {
         let types = vec![Type::Array(Box::new(Type::Int(8)), bytes.len())];
         let first = Value::Pointer(Spot { frame: 0, local: 0, path: Vec::new() });
         let slice = Value::Record(vec![first, Value::Int(bytes.len() as u64)]);
-        let mut run = Run { program: self, least, copies, frames: vec![Frame { types, locals: vec![Some(lent)] }] };
-        let result = run.result(name, std::iter::once(slice).chain(others).collect());
+        let beneath = Frame { given: Given::default(), types, locals: vec![Some(lent)] };
+        let mut run = Run { program: self, least, copies, frames: vec![beneath] };
+        let result = run.result(name, Given::default(), std::iter::once(slice).chain(others).collect());
         let after = run.frames[0].locals[0].take().expect("the bytes");
         (0..bytes.len()).for_each(|at| bytes[at] = after.field(at).int() as u8);
         result
@@ -175,18 +214,60 @@ impl Run<'_, '_, '_> {
         }
     }
 
-    fn result(&mut self, name: &str, arguments: Vec<Value>) -> Value {
+    fn result(&mut self, name: &str, given: Given, arguments: Vec<Value>) -> Value {
         let function = self.program.functions.get(name).unwrap_or_else(|| panic!("there is no function `{}`", name));
-        let types: Vec<Type> = function.field("locals").list().iter().map(|local| type_of(local.field("ty"))).collect();
+        let declared = function.field("locals").list().iter().map(|local| type_of(local.field("ty")));
+        let types: Vec<Type> = declared.map(|of| of.with(&given.types)).collect();
         let mut locals = vec![None; types.len()];
         for (place, argument) in locals[1..].iter_mut().zip(arguments) {
             *place = Some(argument);
         }
-        self.frames.push(Frame { types, locals });
+        self.frames.push(Frame { given, types, locals });
         let mut body = function.field("body").list().iter();
         self.statement(&Statement::first(&mut body));
         assert!(body.next().is_none(), "`{}` has a statement too many", name);
         self.frames.pop().and_then(|mut frame| frame.locals[0].take()).expect("a result")
+    }
+
+    fn innermost(&self) -> &Frame {
+        self.frames.last().expect("a call")
+    }
+
+    /// As it is in the innermost call.
+    fn type_of(&self, json: &Json) -> Type {
+        type_of(json).with(&self.innermost().given.types)
+    }
+
+    fn given(&self, types: &Json, impls: &Json) -> Given {
+        Given {
+            types: types_of(types).iter().map(|of| of.with(&self.innermost().given.types)).collect(),
+            impls: impls.list().iter().map(|json| self.implementation(json)).collect(),
+        }
+    }
+
+    fn implementation(&self, json: &Json) -> Impl {
+        let parts = json.inner();
+        match json.case() {
+            "Given" => self.innermost().given.impls[parts.number() as usize].clone(),
+            "Impl" => Impl { name: parts.at(0).text().to_string(), given: self.given(parts.at(1), parts.at(2)) },
+            other => panic!("`{}` is no impl that this program knows", other),
+        }
+    }
+
+    /// The function that is called, and what stands for its parameters. One of an impl has the impl's before its own.
+    fn callee(&self, json: &Json) -> (String, Given) {
+        let parts = json.inner();
+        match json.case() {
+            "Fn" => {
+                (parts.at(0).text().to_string(), self.given(parts.at(1).field("types"), parts.at(1).field("dicts")))
+            }
+            "Method" => {
+                let own = self.given(parts.at(2).field("types"), parts.at(2).field("dicts"));
+                let Impl { name, given } = self.implementation(parts.at(0));
+                (self.program.method(&name, parts.at(1).number() as usize), given.and(own))
+            }
+            other => panic!("`{}` is no function that this program knows", other),
+        }
     }
 
     /// Where a place is, and its type. The tag of an enum is its field 0.
@@ -205,7 +286,7 @@ impl Run<'_, '_, '_> {
                 "Variant" => variant = Some(step.inner().number() as usize),
                 "Deref" => {
                     spot = self.pointed(&spot);
-                    of = type_of(step.inner());
+                    of = self.type_of(step.inner());
                 }
                 other => panic!("`{}` is no step to a place", other),
             }
@@ -224,7 +305,7 @@ impl Run<'_, '_, '_> {
         match of {
             Type::Array(element, _) => (**element).clone(),
             Type::Struct(fields) => fields[index].clone(),
-            Type::Named(name) => match (self.program.types.declared(name), index) {
+            Type::Named(name, given) => match (self.program.types.declared(name, given), index) {
                 (Declared::Struct(fields), _) => fields[index].clone(),
                 (Declared::Enum(_), 0) => Type::Int(8),
                 (Declared::Enum(variants), _) => variants[variant.expect("a variant")][index - 1].clone(),
@@ -274,17 +355,21 @@ impl Run<'_, '_, '_> {
         }
     }
 
-    /// A new value of the type of `place`: of an enum, the first operand is the variant's number.
-    fn aggregate(&mut self, parts: &Json, place: &Json) -> Value {
-        let mut values: Vec<Value> = parts.list().iter().map(|part| self.operand(part)).collect();
-        let (_, of) = self.resolve(place);
-        match &of {
-            Type::Named(name) if matches!(self.program.types.declared(name), Declared::Enum(_)) => {
-                let tag = values.remove(0).int() as usize;
-                Value::Variant(tag, values)
-            }
-            _ => Value::Record(values),
+    fn is_enum(&self, of: &Type) -> bool {
+        match of {
+            Type::Named(name, given) => matches!(self.program.types.declared(name, given), Declared::Enum(_)),
+            _ => false,
         }
+    }
+
+    /// A new value: of an enum, the first operand is the variant's number.
+    fn aggregate(&mut self, parts: &Json, of: &Type) -> Value {
+        let mut values: Vec<Value> = parts.list().iter().map(|part| self.operand(part)).collect();
+        if self.is_enum(of) {
+            let tag = values.remove(0).int() as usize;
+            return Value::Variant(tag, values);
+        }
+        Value::Record(values)
     }
 
     /// So many bytes further, into an array or on from an element of one.
@@ -325,7 +410,10 @@ impl Run<'_, '_, '_> {
         match json.case() {
             "Opd" => self.operand(parts),
             "AddrOf" => Value::Pointer(self.resolve(parts).0),
-            "Aggregate" => self.aggregate(parts, place),
+            "Aggregate" => {
+                let (_, of) = self.resolve(place);
+                self.aggregate(parts, &of)
+            }
             "Repeat" => {
                 let value = self.operand(parts.at(0));
                 Value::Record(vec![value; literal(parts.at(1))])
@@ -342,22 +430,33 @@ impl Run<'_, '_, '_> {
     }
 
     fn call(&mut self, parts: &Json) {
-        let name = parts.at(0).inner().at(0).text();
+        let (name, given) = self.callee(parts.at(0));
         let arguments = parts.at(1).list().iter().map(|part| self.operand(part)).collect();
-        let result = self.result(name, arguments);
+        let result = self.result(&name, given, arguments);
         let (_, of) = self.resolve(parts.at(2));
         self.count(&of);
         self.write(parts.at(2), result);
     }
 
-    /// A table of the program's own: it stands beneath the running calls.
+    /// The numbers of a table, or the parts of a value.
+    fn constant(&mut self, json: &Json, of: &Type) -> Value {
+        match json.case() {
+            "Ints" => {
+                let numbers = json.inner().field("values").list();
+                Value::Record(numbers.iter().map(|number| Value::Int(number.number())).collect())
+            }
+            "Parts" => self.aggregate(json.inner(), of),
+            other => panic!("`{}` is no constant that this program knows", other),
+        }
+    }
+
+    /// A constant of the program's own: it stands beneath the running calls.
     fn lend(&mut self, parts: &Json) {
-        let of = type_of(parts.at(1));
-        let numbers = parts.at(2).inner().field("values").list();
-        let table = Value::Record(numbers.iter().map(|number| Value::Int(number.number())).collect());
+        let of = self.type_of(parts.at(1));
+        let constant = self.constant(parts.at(2), &of);
         let beneath = &mut self.frames[0];
         beneath.types.push(of);
-        beneath.locals.push(Some(table));
+        beneath.locals.push(Some(constant));
         let spot = Spot { frame: 0, local: beneath.locals.len() - 1, path: Vec::new() };
         self.write(parts.at(0), Value::Pointer(spot));
     }

@@ -14,7 +14,27 @@ pub enum Type {
     Array(Box<Type>, usize),
     /// Without a name of its own, such as a slice's pointer and length.
     Struct(Vec<Type>),
-    Named(String),
+    /// With what stands for its parameters. A tuple is one too.
+    Named(String, Vec<Type>),
+    /// A parameter of the type, the function or the impl in which it stands, by its number.
+    Param(usize),
+}
+
+impl Type {
+    /// With these in place of the parameters.
+    pub fn with(&self, given: &[Type]) -> Type {
+        match self {
+            Type::Array(element, length) => Type::Array(Box::new(element.with(given)), *length),
+            Type::Struct(fields) => Type::Struct(all_with(fields, given)),
+            Type::Named(name, parameters) => Type::Named(name.clone(), all_with(parameters, given)),
+            Type::Param(index) => given[*index].clone(),
+            other => other.clone(),
+        }
+    }
+}
+
+fn all_with(types: &[Type], given: &[Type]) -> Vec<Type> {
+    types.iter().map(|of| of.with(given)).collect()
 }
 
 impl fmt::Display for Type {
@@ -26,7 +46,12 @@ impl fmt::Display for Type {
             Type::Pointer => write!(to, "pointer"),
             Type::Array(element, length) => write!(to, "[{}; {}]", element, length),
             Type::Struct(fields) => write!(to, "a struct of {}", fields.len()),
-            Type::Named(name) => write!(to, "{}", name),
+            Type::Named(name, parameters) if parameters.is_empty() => write!(to, "{}", name),
+            Type::Named(name, parameters) => {
+                let parameters: Vec<String> = parameters.iter().map(Type::to_string).collect();
+                write!(to, "{}<{}>", name, parameters.join(", "))
+            }
+            Type::Param(index) => write!(to, "parameter {}", index),
         }
     }
 }
@@ -36,8 +61,27 @@ pub enum Declared {
     Enum(Vec<Vec<Type>>),
 }
 
+impl Declared {
+    fn of(shape: &Json) -> Declared {
+        match shape.case() {
+            "Fields" => Declared::Struct(types_of(shape.inner())),
+            "Variants" => Declared::Enum(shape.inner().list().iter().map(types_of).collect()),
+            other => panic!("`{}` declares no type", other),
+        }
+    }
+
+    fn with(self, given: &[Type]) -> Declared {
+        match self {
+            Declared::Struct(fields) => Declared::Struct(all_with(&fields, given)),
+            Declared::Enum(variants) => Declared::Enum(variants.iter().map(|fields| all_with(fields, given)).collect()),
+        }
+    }
+}
+
+/// The declarations by their names. One is read where a type of it is met, as the language's library declares many that
+/// no call here comes to.
 #[derive(Default)]
-pub struct Types(HashMap<String, Declared>);
+pub struct Types<'a>(HashMap<&'a str, &'a Json>);
 
 pub fn type_of(json: &Json) -> Type {
     match json.case() {
@@ -47,7 +91,8 @@ pub fn type_of(json: &Json) -> Type {
         "Ptr" | "Ref" => Type::Pointer,
         "Array" => Type::Array(Box::new(type_of(json.inner().at(0))), literal(json.inner().at(1))),
         "Struct" => Type::Struct(types_of(json.inner().at(1))),
-        "Named" => Type::Named(json.inner().at(0).field("name").text().to_string()),
+        "Named" => Type::Named(json.inner().at(0).field("name").text().to_string(), types_of(json.inner().at(1))),
+        "Param" => Type::Param(json.inner().number() as usize),
         other => panic!("`{}` is no type that this program knows", other),
     }
 }
@@ -58,7 +103,7 @@ pub fn literal(json: &Json) -> usize {
     json.inner().number() as usize
 }
 
-fn types_of(list: &Json) -> Vec<Type> {
+pub fn types_of(list: &Json) -> Vec<Type> {
     list.list().iter().map(type_of).collect()
 }
 
@@ -67,23 +112,15 @@ fn aligned(place: usize, alignment: usize) -> usize {
     (place + alignment - 1) / alignment * alignment
 }
 
-impl Types {
-    /// A type with parameters is none of those that are run here, and is passed over.
-    pub fn declare(&mut self, json: &Json) {
-        let shape = json.field("shape");
-        if json.field("type_params").number() > 0 || !json.field("const_params").list().is_empty() {
-            return;
-        }
-        let declared = match shape.case() {
-            "Fields" => Declared::Struct(types_of(shape.inner())),
-            "Variants" => Declared::Enum(shape.inner().list().iter().map(types_of).collect()),
-            other => panic!("`{}` declares no type", other),
-        };
-        self.0.insert(json.field("name").text().to_string(), declared);
+impl<'a> Types<'a> {
+    pub fn declare(&mut self, json: &'a Json) {
+        self.0.insert(json.field("name").text(), json.field("shape"));
     }
 
-    pub fn declared(&self, name: &str) -> &Declared {
-        self.0.get(name).unwrap_or_else(|| panic!("`{}` is not declared", name))
+    /// With these in place of its parameters.
+    pub fn declared(&self, name: &str, given: &[Type]) -> Declared {
+        let shape = self.0.get(name).unwrap_or_else(|| panic!("`{}` is not declared", name));
+        Declared::of(shape).with(given)
     }
 
     fn alignment(&self, of: &Type) -> usize {
@@ -93,10 +130,11 @@ impl Types {
             Type::Pointer => 8,
             Type::Array(element, _) => self.alignment(element),
             Type::Struct(fields) => self.widest(fields),
-            Type::Named(name) => match self.declared(name) {
-                Declared::Struct(fields) => self.widest(fields),
+            Type::Named(name, given) => match self.declared(name, given) {
+                Declared::Struct(fields) => self.widest(&fields),
                 Declared::Enum(variants) => variants.iter().map(|fields| self.widest(fields)).max().unwrap_or(1),
             },
+            Type::Param(_) => panic!("nothing stands for {}", of),
         }
     }
 
@@ -115,8 +153,8 @@ impl Types {
             Type::Unit => 0,
             Type::Array(element, length) => self.size(element) * length,
             Type::Struct(fields) => self.end(0, fields),
-            Type::Named(name) => match self.declared(name) {
-                Declared::Struct(fields) => self.end(0, fields),
+            Type::Named(name, given) => match self.declared(name, given) {
+                Declared::Struct(fields) => self.end(0, &fields),
                 Declared::Enum(variants) => variants.iter().map(|fields| self.end(1, fields)).max().unwrap_or(1),
             },
             _ => self.alignment(of),

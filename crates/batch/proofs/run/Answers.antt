@@ -8,4 +8,4 @@ loop-i-init c = rw c.outputs-shown.ensures (none_gone _ _ _ c.requires.machine_v
 
 pub loop-i-preserved : goal.loop-i-preserved
 loop-i-preserved c =
-    rw (add-sub_cancel_left, c.write_record.ensures, c.goes-went.ensures) (goes_on _ _ _ _ _ _ _ c.loop-i.invariant c.loop-i-test.true)
+    rw (add-sub_cancel_left, c.write_record.ensures, c.goes-answer.ensures) (goes_on _ _ _ _ _ _ _ c.loop-i.invariant c.loop-i-test.true)

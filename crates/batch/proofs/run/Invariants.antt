@@ -1,11 +1,6 @@
--- The state and the records of the words passed, the rest of the buffer as it came, a state that is fit and its outputs; the measure is the
--- number of words left.
-use Rattle.std.proofs.Common.{◌-◌, length}
+-- The state and the records of the words passed, the rest of the buffer as it came, a state that is fit and its outputs.
 use Rattle.batch.proofs.Loop.{Going}
 use Rattle.batch.proofs.run.Given as goal
 
 abbrev pub invariant-loop-i : goal.invariant-loop-i
 invariant-loop-i l = Going l.initial.state l.words l.initial.records l.i l.state l.shown l.records
-
-abbrev pub decreases-loop-i : goal.decreases-loop-i
-decreases-loop-i l = length l.words - l.i

@@ -1,12 +1,9 @@
--- The invariant: the bench is the one after i TICKs; the measure is the number of TICKs left.
-use Rattle.std.proofs.Common.{◌-◌, ◌≡◌, ◌≤◌}
+-- The bench is the one after i TICKs.
+use Rattle.std.proofs.Common.{◌≡◌}
 use Rattle.std.specs.Prelude.{replicate}
 use Rattle.event.specs.declared.Event.TheVariants.{Tick}
 use Rattle.bench.specs.Orders.{word_for, after_words}
 use Rattle.bench.proofs.orders.ticks.Given as goal
 
 abbrev pub invariant-loop-i : goal.invariant-loop-i
-invariant-loop-i l = (l.i ≤ l.count) × (l.word ≡ word_for Tick) × (l.state ≡ after_words l.fn.bench (replicate l.i (word_for Tick)))
-
-abbrev pub decreases-loop-i : goal.decreases-loop-i
-decreases-loop-i l = l.count - l.i
+invariant-loop-i l = (l.word ≡ word_for Tick) × (l.state ≡ after_words l.fn.bench (replicate l.i (word_for Tick)))

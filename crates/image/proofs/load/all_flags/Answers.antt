@@ -1,12 +1,12 @@
 -- One more byte, and all of them.
-use Rattle.std.proofs.Common.{rules, ap, ◌∙◌}
+use Rattle.std.proofs.Common.{ap, ◌∙◌}
 use lib.Seq.{take_all}
 use Rattle.image.specs.Load.{all_flags}
 use Rattle.image.proofs.Flags.{all_next}
 use Rattle.image.proofs.load.all_flags.Goals as goal
 
-pub loop-i-preserved : goal.loop-i-preserved
-loop-i-preserved c = (search rules, rw (all_next _ _ c.loop-i-test.true, ← c.loop-i.invariant.1))
+pub loop-flag-preserved : goal.loop-flag-preserved
+loop-flag-preserved c = rw (all_next _ _ c.loop-flag-test.true, ← c.loop-flag.invariant)
 
 pub returns : goal.returns
-returns c = c.loop-i.invariant.1 ∙ ap all_flags (take_all _ _ c.loop-i-test.false)
+returns c = c.loop-flag.invariant ∙ ap all_flags (take_all _ _ c.loop-flag-test.false)

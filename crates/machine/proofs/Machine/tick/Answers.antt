@@ -17,5 +17,6 @@ returns-then-rest c =
       c.next_phase-phase.ensures,
       unmoved m 0 (still 0),
       unmoved m 1 (still 1),
+      ← c.rest.ensures.two,
       sym c.rest.ensures.value ∙ c.if-rest.true,
     )

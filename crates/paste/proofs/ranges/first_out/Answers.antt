@@ -1,12 +1,11 @@
--- A number past its range is the first one, and where none is, all were passed.
-use Rattle.paste.proofs.Passing.{within_on, within_stop, within_end}
+-- The search of the numbers finds the first that is out of its range.
+use Rattle.std.proofs.Common.{rules, tests}
+use Rattle.std.proofs.lemmas.Iterator.{YieldsList-from_slice}
+use Rattle.std.proofs.lemmas.Iterator.Search.{find_from_yields_List}
+use Rattle.paste.specs.Ranges.{is_out}
 use Rattle.paste.proofs.ranges.first_out.Goals as goal
 
-pub returns-then-lasts-i : goal.returns-then-lasts-i
-returns-then-lasts-i c = within_stop _ _ _ c.loop-i.invariant c.requires c.loop-i-test.true c.if-lasts-i.true
-
-pub loop-i-preserved : goal.loop-i-preserved
-loop-i-preserved c = within_on _ _ _ c.loop-i.invariant c.requires c.loop-i-test.true c.if-lasts-i.false
-
 pub returns : goal.returns
-returns c = within_end _ _ _ c.loop-i.invariant c.requires c.loop-i-test.false
+returns c =
+    let found = find_from_yields_List is_out _ _ c.find.result c.find.ensures.ran (YieldsList-from_slice c.args.numbers.now cc) (λ x b q k. search (rules, tests)) in
+    cc

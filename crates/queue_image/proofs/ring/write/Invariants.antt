@@ -1,10 +1,6 @@
--- The bytes of the words passed, and behind them the bytes as they came; the measure is the number of words left.
-use Rattle.std.proofs.Common.{◌-◌, length}
+-- The bytes of the words passed, and behind them the bytes as they came.
 use Rattle.queue_image.proofs.Loops.{Written}
 use Rattle.queue_image.proofs.ring.write.Given as goal
 
 abbrev pub invariant-loop-i : goal.invariant-loop-i
-invariant-loop-i l = Written l.words l.initial.bytes l.i l.at l.bytes
-
-abbrev pub decreases-loop-i : goal.decreases-loop-i
-decreases-loop-i l = length l.words - l.i
+invariant-loop-i l = Written l.words l.initial.bytes l.i l.bytes

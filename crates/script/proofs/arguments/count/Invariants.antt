@@ -1,10 +1,7 @@
--- The invariant is `Counts`: the number and what is left make the count; the measure is the number of characters left.
-use Rattle.std.proofs.Common.{length, ◌-◌}
-use Rattle.script.proofs.Passing.{Counts}
+-- The number and what is left make the count.
+use Rattle.std.proofs.Common.{◌≡◌, drop}
+use Rattle.script.specs.Arguments.{count_of, count_from}
 use Rattle.script.proofs.arguments.count.Given as goal
 
-abbrev pub invariant-loop-i : goal.invariant-loop-i
-invariant-loop-i l = Counts l.text l.n l.i
-
-abbrev pub decreases-loop-i : goal.decreases-loop-i
-decreases-loop-i l = length l.text - l.i
+abbrev pub invariant-loop-c : goal.invariant-loop-c
+invariant-loop-c l = count_of l.text ≡ count_from l.n (drop l.c-index l.text)

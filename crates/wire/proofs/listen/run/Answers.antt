@@ -1,35 +1,25 @@
--- While there are samples left there is a place for a word, since a sample gives at most one.
-use Rattle.std.proofs.Common.{arith, length-take, length-drop}
-use Rattle.wire.proofs.Cut.{at_most_one}
-use Rattle.wire.proofs.Loop.{none_taken, one_more, length_kept, word_fits}
+-- While there are samples left there is a place for a word, since a sample gives at most one; the word goes to the first place that is left.
+use Rattle.std.proofs.Common.{arith}
+use Rattle.wire.proofs.Loop.{none_taken, word_fits, nothing_given, one_given}
 use Rattle.wire.proofs.listen.run.Goals as goal
+use Rattle.wire.proofs.listen.run.Goals.{in-Some, in_default}
 
-pub loop-i-init : goal.loop-i-init
-loop-i-init c = none_taken _ _ _
+pub loop-sample-init : goal.loop-sample-init
+loop-sample-init c = none_taken _ _ _
+
+pub bounds-words-count : goal.bounds-words-count
+bounds-words-count c = (word_fits _ _ _ _ _ _ _ c.loop-sample.invariant c.requires c.loop-sample-test.true).0
 
 pub offset_bounds-words-count : goal.offset_bounds-words-count
-offset_bounds-words-count c =
-    omega (arith, word_fits _ _ _ _ _ _ _ c.loop-i.invariant c.requires c.loop-i-test.true, length_kept _ _ _ _ _ _ _ c.loop-i.invariant c.requires)
-
-pub slice_bounds-put-count : goal.slice_bounds-put-count
-slice_bounds-put-count c = omega (arith, word_fits _ _ _ _ _ _ _ c.loop-i.invariant c.requires c.loop-i-test.true)
-
-pub slice_bounds-put-start : goal.slice_bounds-put-start
-slice_bounds-put-start c = omega (arith, word_fits _ _ _ _ _ _ _ c.loop-i.invariant c.requires c.loop-i-test.true)
-
-pub put-count-requires : goal.put-count-requires
-put-count-requires c = simp (length-take, length-drop) (omega (arith, word_fits _ _ _ _ _ _ _ c.loop-i.invariant c.requires c.loop-i-test.true))
+offset_bounds-words-count c = let f = word_fits _ _ _ _ _ _ _ c.loop-sample.invariant c.requires c.loop-sample-test.true in omega (arith, f.0, f.1)
 
 pub overflow_add-count : goal.overflow_add-count
-overflow_add-count c =
-    omega (
-      arith,
-      word_fits _ _ _ _ _ _ _ c.loop-i.invariant c.requires c.loop-i-test.true,
-      length_kept _ _ _ _ _ _ _ c.loop-i.invariant c.requires,
-      at_most_one c.hear-heard.result.given,
-    )
+overflow_add-count c = let f = word_fits _ _ _ _ _ _ _ c.loop-sample.invariant c.requires c.loop-sample-test.true in omega (arith, f.0, f.1)
 
-pub loop-i-preserved : goal.loop-i-preserved
-loop-i-preserved c =
-    rw (c.put-count.ensures.places_after, c.put-count.ensures.value, c.hear-heard.ensures)
-    (one_more _ _ _ _ _ _ _ c.loop-i.invariant c.requires c.loop-i-test.true)
+pub loop-sample-preserved : goal.loop-sample-preserved
+loop-sample-preserved c =
+    let h = c.loop-sample.invariant in
+    elim c.match-heard.branch [
+      | in-Some w ↦ rw (w.count-is, w.words-is, w.packed_word.ensures) (one_given _ _ _ _ _ _ _ h c.requires c.hear-heard.result c.hear-heard.ensures c.loop-sample-test.true _ w.in-Some.is)
+      | in_default w ↦ rw (w.count-is, w.words-is) (nothing_given _ _ _ _ _ _ _ h c.requires c.hear-heard.result c.hear-heard.ensures c.loop-sample-test.true w.in_default.not-Some)
+    ]
