@@ -1,10 +1,10 @@
 -- Records, one after the other: each is four bytes, and those of two lists of answers are those of the one, then those of the other.
 -- Assumes nothing.
-use Prim.Native.Nat.{ℕ, ◌*◌}
+use Prim.Native.Nat.{◌*◌}
 use native.Mathlib.Omega.{arith}
 use mathlib.Core.Path.{◌≡◌, refl, ap, ◌∙◌, sym}
 use mathlib.Core.List.{List, [], ◌∷◌, ◌++◌, append_assoc}
-use lib.ListN.{length, set, length-append}
+use lib.ListN.{length, length-append}
 use Rattle.batch.specs.Record.{record_of, records_of}
 use Rattle.dock.specs.Answers.{Answer}
 
@@ -21,12 +21,3 @@ pub records_append : (k l : List Answer) → records_of (k ++ l) ≡ records_of 
 unfolding records_of
 records_append [] l = refl
 records_append (a ∷ k) l = ap (λ r. record_of a ++ r) (records_append k l) ∙ sym (append_assoc (record_of a) (records_of k) (records_of l))
-
--- Four bytes that are written one by one.
-pub four_written : (xs : List ℕ) (a b c d : ℕ) → length xs ≡ 4 → set (set (set (set xs 0 a) 1 b) 2 c) 3 d ≡ a ∷ b ∷ c ∷ d ∷ []
-four_written [] a b c d h = absurd (omega arith)
-four_written (x ∷ []) a b c d h = absurd (omega arith)
-four_written (x ∷ (y ∷ [])) a b c d h = absurd (omega arith)
-four_written (x ∷ (y ∷ (z ∷ []))) a b c d h = absurd (omega arith)
-four_written (x ∷ (y ∷ (z ∷ (t ∷ [])))) a b c d h = refl
-four_written (x ∷ (y ∷ (z ∷ (t ∷ (u ∷ xs))))) a b c d h = absurd (omega arith)

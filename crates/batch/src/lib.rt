@@ -91,7 +91,6 @@ pub fn answer_in(number: u32) -> Answer
 }
 
 // Writes an answer's record into the four bytes lent.
-#[tactic(auto, using(crate::proofs::Records::four_written), unfolding(crate::specs::Record::record_of))]
 fn write_record(answer: Answer, place: &mut [u8])
     requires { length place.old ≡ 4 }
     ensures { place.new ≡ record_of answer }

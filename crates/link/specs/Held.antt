@@ -1,6 +1,6 @@
 -- The calls on a state that the caller holds, as the bytes of its image. Bytes that are no image are refused with 1, as an unfit state is.
 use Rattle.std.specs.Prelude.{ℕ, cond, List, eqb, length}
-use Rattle.std.specs.Prelude.{Option, Result, Ok, Err}
+use Rattle.std.specs.Prelude.{Option, Result, Err}
 use Rattle.dock.specs.Record.{fresh_controller}
 use Rattle.dock.specs.Step.{step_of, told_reading, told_outputs}
 use Rattle.dock.specs.Name.{name_of}
@@ -54,10 +54,7 @@ naming_in bytes n = in_image bytes (λ s. (name_of s n).naming) (Err UnfitToName
 unfoldable pub named_in : List ℕ → ℕ → List ℕ
 named_in bytes n = in_image bytes (λ s. saved (name_of s n).controller) bytes
 
--- The questions, which change nothing, and the state that they are asked of.
-unfoldable pub loaded_in : List ℕ → Result Controller Refusal
-loaded_in bytes = in_image bytes Ok (Err Unfit)
-
+-- The questions, which change nothing.
 unfoldable pub reading_in : List ℕ → ℕ → Result ℕ Refusal
 reading_in bytes a = in_image bytes (λ s. told_reading s a) (Err Unfit)
 

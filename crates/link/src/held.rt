@@ -3,7 +3,7 @@ ghost use Rattle.std.specs.Prelude.{◌≡◌, length};
 ghost use Rattle.batch.specs.Decode.{number_of};
 ghost use Rattle.batch.specs.Record.{record_of};
 ghost use Rattle.link.specs.Answer.{batched_as, named_as, told_as, held_as};
-ghost use Rattle.link.specs.Held.{begun, begun_in, answer_in, stepped_in, outcome_in, batched_in, records_in, naming_in, named_in, reading_in, outputs_in, held_in, loaded_in};
+ghost use Rattle.link.specs.Held.{begun, begun_in, answer_in, stepped_in, outcome_in, batched_in, records_in, naming_in, named_in, reading_in, outputs_in, held_in};
 
 use crate::answer::{both, counted};
 use crate::images::put;
@@ -37,14 +37,6 @@ pub fn dock_begin(state: &mut [u8]) -> u32
     }
     put(fresh(), state);
     both(0, 0)
-}
-
-// The state of an image, fit or not.
-#[tactic(auto, unfolding(image::specs::Load::state_of, crate::specs::Held::loaded_in))]
-fn held(state: &[u8]) -> Result<Controller, Refusal>
-    ensures { result ≡ loaded_in state.now }
-{
-    state_of(state).ok_or(Refusal::Unfit)
 }
 
 // Takes words from the state held: the one place of the library that takes events.
@@ -139,13 +131,10 @@ pub fn dock_outputs(state: &[u8]) -> u32
 }
 
 // The byte that an open read holds, with bit 8 of the value set, or that none is: 0.
-#[tactic(auto, unfolding(crate::specs::Held::loaded_in, crate::specs::Held::held_in))]
+#[tactic(auto, unfolding(image::specs::Load::state_of, crate::specs::Held::held_in))]
 pub fn dock_held_byte(state: &[u8]) -> u32
     ensures { result ≡ held_as (held_in state.now) }
 {
-    told(
-        held(state)
-            .and_then(|controller| controller.held())
-            .map(|byte| held_value(byte)),
-    )
+    let byte = state_of(state).map_or(Err(Refusal::Unfit), |controller| controller.held());
+    told(byte.map(|byte| held_value(byte)))
 }

@@ -109,7 +109,7 @@ fn refused(refusal: Refusal) -> Told
 }
 
 // Takes one event for the states held. A refused call writes nothing.
-#[tactic(auto, using(chassis::proofs::Loops::places_within, crate::proofs::RanList::count_none, crate::proofs::RanList::Counted, crate::proofs::RanList::counted, crate::proofs::RanList::no_list, crate::proofs::RanList::no_image, crate::proofs::RanList::images_passed, crate::proofs::RanList::steps))]
+#[tactic(auto, using(chassis::proofs::Loops::places_within))]
 fn run(states: &mut [u8], named: usize, word: u16) -> Told
     ensures value { result ≡ told_in states.old named word }
     ensures states_after { states.new ≡ list_in states.old named word }

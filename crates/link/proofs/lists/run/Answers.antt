@@ -5,10 +5,11 @@ use Rattle.image.specs.Shape.{Octets}
 use Rattle.link.proofs.RanList.{unlisted, count_none, counted, no_list, no_image, images_passed, steps}
 use Rattle.link.proofs.lists.run.Goals as goal
 
-pub returns-in_default-clause-states_after : goal.returns-in_default-clause-states_after
-returns-in_default-clause-states_after c =
+pub returns-in_default : goal.returns-in_default
+returns-in_default c =
     let a = c.args in
-    (no_list a.states.now a.named a.word (count_none (length a.states.now) (unlisted (length a.states.now) c.images_in.result c.images_in.ensures c.in_default.not-Some))).1
+    let t = no_list a.states.now a.named a.word (count_none (length a.states.now) (unlisted (length a.states.now) c.images_in.result c.images_in.ensures c.in_default.not-Some)) in
+    record { value = c.refused.ensures ∙ t.0; states_after = t.1 }
 
 pub returns-in_default-look : goal.returns-in_default-look
 returns-in_default-look c =
