@@ -33,7 +33,7 @@ use Rattle.dock.specs.Run.{after, naming, after_call}
 use Rattle.dock.specs.Step.{step_of}
 use Rattle.dock.specs.declared.Controller.{Controller}
 use Rattle.image.specs.Layout.{BYTES}
-use Rattle.image.specs.Load.{first_over, progress_verdict, sized_verdict, verdict_on, state_in, load_of}
+use Rattle.image.specs.Load.{first_over, progress_verdict, sized_verdict, verdict_on, state_in, checked_of}
 use Rattle.image.specs.Save.{saved}
 use Rattle.image.specs.Shape.{Shaped}
 use Rattle.image.proofs.RoundTrip.{saved_length}
@@ -209,7 +209,7 @@ damage_kept t b damaged = rw (untouched (pasted_of t) damaged, either_way b (is_
 
 -- After a `load` the next line goes over the levels of the loaded state, or, after a damaged one, over those that were there.
 pub loadings_hold : map loaded_words loadings ≡ map (λ (e : Loading). e.words) loadings
-unfolding loadings heeded obeyed loaded_by is_there with_record with_levels levels_at fresh_docks pasted_of judged finding_of unread bytes_of longest out_of load_of verdict_on sized_verdict progress_verdict first_over state_in fits second_fits bay_in bay_fit levels_in bay_levels fresh_bench fresh_controller fresh_machine empty_bay words_of pulled raised packed word_of straps_of line_of argument_of plain text_line verb_line order_line hand_line insert_line only bay_of only_bay kind_of reset_line take_line write_line span read_line chassis_line further_of follows_at all_further further_values octet_of digit_of word_in pair_of ticks_of small_of count_of count_from verb_of verbs trimmed first rest blank
+unfolding loadings heeded obeyed loaded_by is_there with_record with_levels levels_at fresh_docks pasted_of judged finding_of unread bytes_of longest out_of checked_of verdict_on sized_verdict progress_verdict first_over state_in fits second_fits bay_in bay_fit levels_in bay_levels fresh_bench fresh_controller fresh_machine empty_bay words_of pulled raised packed word_of straps_of line_of argument_of plain text_line verb_line order_line hand_line insert_line only bay_of only_bay kind_of reset_line take_line write_line span read_line chassis_line further_of follows_at all_further further_values octet_of digit_of word_in pair_of ticks_of small_of count_of count_from verb_of verbs trimmed first rest blank
 loadings_hold = refl
 
 -- The levels that a RESET gives are those that the dock then has stored: of a bay, all sixteen.

@@ -23,11 +23,11 @@ use Rattle.dock.specs.declared.Controller.{Controller}
 use Rattle.machine.proofs.Bays.{each}
 use Rattle.image.specs.Layout.{LAYOUT, BYTES, FLAGS, NUMBERS, PROGRESS}
 use Rattle.image.specs.Save.{flag_byte, bay_flags, bay_numbers, second_flags, second_numbers, flags_of, numbers_of, progress_bytes, saved}
-use Rattle.image.specs.Load.{Verdict, byte_at, flag_bytes, numbers_in, all_flags, first_over, whole, progress_verdict, sized_verdict, verdict_on, is_image, is_set, bay_by, second_by, machine_by, progress_by, state_in, load_of}
+use Rattle.image.specs.Load.{Verdict, byte_at, flag_bytes, numbers_in, all_flags, first_over, whole, progress_verdict, sized_verdict, verdict_on, is_image, is_set, bay_by, second_by, machine_by, progress_by, state_in, checked_of, load_of, state_of}
 use Rattle.image.specs.Shape.{ShapedBay, ShapedSecond, Shaped, Octets}
 use Rattle.image.proofs.Elements.{by_elements}
 use Rattle.image.specs.declared.Flaw.TheVariants.{NotAFlag, NotUsed, UnknownVersion, WrongLength}
-use Rattle.std.specs.Prelude.{Err, Ok}
+use Rattle.std.specs.Prelude.{Some, Err, Ok}
 
 -- ---- a saved state, loaded
 
@@ -143,9 +143,18 @@ state_back s h =
     held : Machine → Progress → Controller
     held m p = record { machine = m; progress = p }
 
-pub load_saved : (s : Controller) → Shaped s.machine → load_of (saved s) ≡ Ok s
+pub load_saved : (s : Controller) → Shaped s.machine → load_of (saved s) ≡ record { verdict = Ok tt; controller = s }
 unfolding load_of
-load_saved s h = rw (saved_whole s) (ap Ok (state_back s h))
+load_saved s h = rw (saved_whole s) (ap (λ t. record { verdict = Ok tt; controller = t }) (state_back s h))
+
+-- The same of the two other ways to load: with the flaw, and, as the library's calls do, without it.
+pub checked_saved : (s : Controller) → Shaped s.machine → checked_of (saved s) ≡ Ok s
+unfolding checked_of
+checked_saved s h = rw (saved_whole s) (ap Ok (state_back s h))
+
+pub state_saved : (s : Controller) → Shaped s.machine → state_of (saved s) ≡ Some s
+unfolding state_of
+state_saved s h = rw (saved_image s) (ap Some (state_back s h))
 
 -- ---- bytes that are an image, loaded and saved
 

@@ -4,8 +4,10 @@ use native.Mathlib.Omega.{arith}
 use mathlib.Core.Path.{◌≡◌, refl, sym, ◌∙◌}
 use mathlib.Core.Bool.{Bool, true, false, cond, false≢true}
 use mathlib.Core.List.{List}
+use Rattle.dock.specs.Record.{fresh_controller}
 use Rattle.dock.specs.declared.Controller.{Controller}
-use Rattle.image.specs.Load.{Verdict, whole, verdict_on, is_image, state_in, state_of}
+use Rattle.image.specs.Load.{Verdict, whole, verdict_on, is_image, state_in, state_by, load_of, state_of}
+use Rattle.image.specs.declared.Flaw.{Flaw}
 use Rattle.std.specs.Prelude.{Option, Some, None, Ok, Err}
 
 whole_is : (v : Verdict) → whole v ≡ true → v ≡ Ok tt
@@ -34,3 +36,12 @@ is_image_lem bytes r = go (is_image bytes)
     go : (b : Bool) → r ≡ cond b (Some (state_in bytes)) None → (s : Controller) → r ≡ Some s → (b ≡ true) × (s ≡ state_in bytes)
     go true e s o = (refl, cc)
     go false e s o = absurd (no_value (sym o ∙ e))
+
+-- The same of what `load` answers: beside a flaw stands a fresh state.
+pub not_loaded : (bytes : List ℕ) (why : Flaw) → (load_of bytes).verdict ≡ Err why → (is_image bytes ≡ false) × ((load_of bytes).controller ≡ fresh_controller)
+unfolding load_of is_image
+not_loaded bytes why e = rw e (refl, refl)
+
+pub loaded : (bytes : List ℕ) → (load_of bytes).verdict ≡ Ok tt → (is_image bytes ≡ true) × ((load_of bytes).controller ≡ state_in bytes)
+unfolding load_of is_image
+loaded bytes e = rw e (refl, refl)

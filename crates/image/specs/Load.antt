@@ -8,10 +8,12 @@ use Rattle.kind.specs.Kind.{kind_by}
 use Rattle.second.specs.declared.Second.{Second}
 use Rattle.bay.specs.declared.Bay.{Bay}
 use Rattle.machine.specs.declared.Machine.{Machine}
+use Rattle.dock.specs.Record.{fresh_controller}
 use Rattle.dock.specs.declared.Controller.{Controller}
 use Rattle.image.specs.Layout.{LAYOUT, BYTES, FLAGS, NUMBERS, PROGRESS}
 use Rattle.image.specs.declared.Flaw.TheVariants.{NotAFlag, NotUsed, UnknownProgress, UnknownVersion, WrongLength}
 use Rattle.image.specs.declared.Flaw.{Flaw}
+use Rattle.image.specs.declared.Loaded.{Loaded}
 
 -- ---- the parts of an image
 
@@ -157,13 +159,21 @@ state_in bytes =
     }
 
 -- Bytes that are no image have no state.
-abbrev pub state_by : Verdict → List ℕ → Result Controller Flaw
-state_by (Ok t) bytes = Ok (state_in bytes)
-state_by (Err why) bytes = Err why
+abbrev pub checked_by : Verdict → List ℕ → Result Controller Flaw
+checked_by (Ok t) bytes = Ok (state_in bytes)
+checked_by (Err why) bytes = Err why
 
-unfoldable pub load_of : List ℕ → Result Controller Flaw
-load_of bytes = state_by (verdict_on bytes) bytes
+unfoldable pub checked_of : List ℕ → Result Controller Flaw
+checked_of bytes = checked_by (verdict_on bytes) bytes
 
--- The same, without why there is none.
+-- Beside a verdict that the bytes are no image stands a fresh state.
+abbrev pub state_by : Verdict → List ℕ → Controller
+state_by (Ok t) bytes = state_in bytes
+state_by (Err why) bytes = fresh_controller
+
+unfoldable pub load_of : List ℕ → Loaded
+load_of bytes = record { verdict = verdict_on bytes; controller = state_by (verdict_on bytes) bytes }
+
+-- The state alone, without why there is none.
 unfoldable pub state_of : List ℕ → Option Controller
 state_of bytes = cond (is_image bytes) (Some (state_in bytes)) None

@@ -4,6 +4,8 @@
 pub mod load;
 pub mod save;
 
+use dock::Controller;
+
 // ---- the layout: its version, then the flags, each a byte of 0 or 1, then the numbers, then the command in progress
 
 // The version rises whenever a byte, what it may hold or the length changes.
@@ -129,4 +131,11 @@ pub enum Flaw {
     UnknownProgress,
     // The byte at this place isn't 0, and the command in progress doesn't use it.
     NotUsed(usize),
+}
+
+// What bytes are: without a flaw they are an image, of a state that may be unfit. Beside a flaw stands a fresh state.
+#[derive(Clone, Copy)]
+pub struct Loaded {
+    pub verdict: Result<(), Flaw>,
+    pub controller: Controller,
 }

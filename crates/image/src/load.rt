@@ -1,9 +1,9 @@
 // Bytes read as a state.
 ghost use Rattle.std.specs.Prelude.{◌≡◌, map, length, ◌≤◌};
 ghost use Rattle.image.specs.Layout.{BYTES};
-ghost use Rattle.image.specs.Load.{is_set, bay_by, second_by, machine_in, progress_by, all_flags, first_over, progress_verdict, sized_verdict, state_in, load_of, state_of};
+ghost use Rattle.image.specs.Load.{is_set, bay_by, second_by, machine_in, progress_by, all_flags, first_over, progress_verdict, sized_verdict, state_in, checked_of, load_of, state_of};
 
-use crate::{BYTES, Flaw};
+use crate::{BYTES, Flaw, Loaded};
 use bay::{Bay, Control};
 use bus::Progress;
 use dock::Controller;
@@ -205,9 +205,9 @@ fn state_in(image: &[u8]) -> Controller
 
 // The state of an image, fit or not, or why the bytes are none. They stay a slice: a reference in an Option, as their array would be, has another
 // layout on a processor of 32 bits (docs/DESIGN-PASS.md).
-#[tactic(auto, unfolding(crate::specs::Load::load_of, crate::specs::Load::verdict_on))]
-pub fn load(image: &[u8]) -> Result<Controller, Flaw>
-    ensures { result ≡ load_of image.now }
+#[tactic(auto, unfolding(crate::specs::Load::checked_of, crate::specs::Load::verdict_on))]
+pub fn checked(image: &[u8]) -> Result<Controller, Flaw>
+    ensures { result ≡ checked_of image.now }
 {
     if image.len() != BYTES {
         return Err(Flaw::WrongLength);
@@ -216,7 +216,24 @@ pub fn load(image: &[u8]) -> Result<Controller, Flaw>
     Ok(state_in(image))
 }
 
-// The state of an image for who doesn't ask why bytes are none. A Result of `load` has a Flaw's place where the state's bytes are, and so the compiler
+// What any bytes are, and the state of an image, fit or not; a fresh one beside a flaw.
+#[tactic(auto, unfolding(crate::specs::Load::checked_of, crate::specs::Load::load_of))]
+pub fn load(image: &[u8]) -> Loaded
+    ensures { result ≡ load_of image.now }
+{
+    match checked(image) {
+        Ok(controller) => Loaded {
+            verdict: Ok(()),
+            controller,
+        },
+        Err(flaw) => Loaded {
+            verdict: Err(flaw),
+            controller: Controller::fresh(),
+        },
+    }
+}
+
+// The state of an image for who doesn't ask why bytes are none. A Result of `checked` has a Flaw's place where the state's bytes are, and so the compiler
 // puts eight of them at a time together for a number: a tenth more instructions for each call on a state.
 #[tactic(auto, unfolding(crate::specs::Load::state_of, crate::specs::Load::is_image, crate::specs::Load::verdict_on))]
 pub fn state_of(image: &[u8]) -> Option<Controller>

@@ -22,11 +22,11 @@ use Rattle.second.specs.Record.{fits as second_fits}
 use Rattle.bay.specs.Record.{bay_fit}
 use Rattle.machine.specs.Record.{bay_in, fits}
 use Rattle.image.specs.Layout.{BYTES}
-use Rattle.image.specs.Load.{first_over, progress_verdict, sized_verdict, verdict_on, state_in, load_of}
+use Rattle.image.specs.Load.{first_over, progress_verdict, sized_verdict, verdict_on, state_in, checked_of}
 use Rattle.image.specs.Save.{saved}
 pub use Rattle.image.specs.Shape.{Shaped, Octets}
 use Rattle.image.specs.declared.Flaw.{Flaw}
-use Rattle.image.proofs.RoundTrip.{saved_length, load_saved}
+use Rattle.image.proofs.RoundTrip.{saved_length, checked_saved}
 use Rattle.paste.specs.Digits.{hex_of, leading_digits, bytes_of}
 use Rattle.paste.specs.Findings.{finding_of, found, judged_by, judged, unread, pasted_of}
 use Rattle.paste.specs.Examples.{Example, examples, wrong}
@@ -40,7 +40,7 @@ use Rattle.paste.proofs.findings.read.Reads as read_reads
 
 -- Each of the examples is what it is said to be.
 pub examples_hold : map (λ (e : Example). wrong (pasted_of (characters e.pasted))) examples ≡ map (λ (e : Example). e.finding) examples
-unfolding examples pasted_of judged finding_of unread bytes_of digit_of longest out_of load_of verdict_on sized_verdict progress_verdict first_over state_in fits second_fits bay_in bay_fit
+unfolding examples pasted_of judged finding_of unread bytes_of digit_of longest out_of checked_of verdict_on sized_verdict progress_verdict first_over state_in fits second_fits bay_in bay_fit
 examples_hold = refl
 
 -- ---- what is written is read as the same bytes
@@ -77,7 +77,7 @@ pub state_back :
     (s : Controller) → Shaped s.machine → Octets (saved s) → fits s.machine ≡ true
     → pasted_of (hex_of (saved s)) ≡ Ok (record { bytes = saved s; controller = s })
 unfolding judged finding_of
-state_back s shaped octets fit = written_back (saved s) octets (saved_length s) ∙ rw (load_saved s shaped, fit)
+state_back s shaped octets fit = written_back (saved s) octets (saved_length s) ∙ rw (checked_saved s shaped, fit)
 
 -- What is written is one word of a line: no digit is a blank, and none begins a comment.
 digit_above : (n : ℕ) → 47 < digit_for n
@@ -110,7 +110,7 @@ fit_by bytes (Err why) p e = cc
 
 judged_fit : (bs : List ℕ) (p : Pasted) → judged bs ≡ Ok p → fits p.controller.machine ≡ true
 unfolding judged
-judged_fit bs p e = fit_by bs (load_of bs) p e
+judged_fit bs p e = fit_by bs (checked_of bs) p e
 
 pub accepted_is_fit : (t : List ℕ) (p : Pasted) → pasted_of t ≡ Ok p → fits p.controller.machine ≡ true
 unfolding pasted_of

@@ -5,7 +5,7 @@ use Rattle.machine.specs.Record.{fits}
 use Rattle.dock.specs.Record.{fresh_controller}
 use Rattle.dock.specs.declared.Controller.{Controller}
 use Rattle.image.specs.Layout.{BYTES}
-use Rattle.image.specs.Load.{load_of}
+use Rattle.image.specs.Load.{checked_of}
 use Rattle.image.specs.declared.Flaw.{Flaw}
 use Rattle.paste.specs.Digits.{leading_digits, bytes_of}
 use Rattle.paste.specs.Ranges.{out_of}
@@ -28,7 +28,7 @@ judged_by bytes (Ok c) = found bytes c (finding_of c)
 judged_by bytes (Err why) = Err (record { finding = NoImage why; bytes = bytes; controller = fresh_controller })
 
 unfoldable pub judged : List ℕ → Result Pasted Refused
-judged bytes = judged_by bytes (load_of bytes)
+judged bytes = judged_by bytes (checked_of bytes)
 
 -- A text that isn't as many bytes.
 unfoldable pub unread : Finding → Refused

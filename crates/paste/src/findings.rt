@@ -6,7 +6,7 @@ use crate::digits::{bytes_in, count_digits};
 use crate::ranges::out_of;
 use crate::{DIGITS, Finding, Pasted, Refused};
 use dock::Controller;
-use image::load::load;
+use image::load::checked;
 
 // What is wrong with the state of an image: where it isn't fit, its first number out of its range.
 #[tactic(auto, unfolding(crate::specs::Findings::finding_of))]
@@ -24,7 +24,7 @@ fn finding_of(controller: Controller) -> Option<Finding>
 fn judged(bytes: [u8; image::BYTES]) -> Result<Pasted, Refused>
     ensures { result ≡ judged bytes }
 {
-    let controller = match load(&bytes) {
+    let controller = match checked(&bytes) {
         Ok(controller) => controller,
         Err(flaw) => {
             return Err(Refused {
