@@ -15,6 +15,7 @@ use Rattle.lines.specs.declared.reads.Stopped.{Stopped}
 use Rattle.lines.proofs.line.line.Reads as line_call
 use Rattle.lines.proofs.reads.answered.Reads as answered_call
 use Rattle.lines.proofs.text.put.Reads as put_call
+use Rattle.lines.proofs.text.copy.Reads as copy_call
 use Rattle.lines.proofs.tell.feed.Reads as feed_call
 use Rattle.dock.specs.Answers.{Answer}
 
@@ -36,6 +37,11 @@ pub put_determined :
     (κs : _) (text : Bor (List ℕ)) (page left left' : MutBor (ArrayVec ℕ)) → put_call.Post κs (text, (page, tt)) tt (text, (left, tt))
     → put_call.Post κs (text, (page, tt)) tt (text, (left', tt)) → left.now ≡ left'.now
 put_determined κs text page left left' p q = same_page (p ∙ sym q)
+
+pub copy_determined :
+    (κs : _) (text : Bor (List ℕ)) (output left left' : MutBor (List ℕ)) (n n' : ℕ) → copy_call.Post κs (text, (output, tt)) n (text, (left, tt))
+    → copy_call.Post κs (text, (output, tt)) n' (text, (left', tt)) → (n ≡ n') × (left.now ≡ left'.now)
+copy_determined κs text output left left' n n' p q = (p.0 ∙ sym q.0, p.1 ∙ sym q.1)
 
 pub feed_determined :
     (T : RattleType) (L : Laws T) (G : Ghosts T.Denot) (D : Dict) (κs : _) (teller told told' : MutBor T.Denot) (input : Bor (List ℕ))

@@ -1,6 +1,6 @@
 // A text that grows in fixed memory.
 ghost use Rattle.std.specs.Prelude.{◌≡◌, ◌+◌, ◌≤◌, ◌++◌, length};
-ghost use Rattle.lines.specs.Text.{PAGE};
+ghost use Rattle.lines.specs.Text.{PAGE, written};
 
 use arrayvec::ArrayVec;
 
@@ -16,4 +16,16 @@ pub fn put(text: &[u8], page: &mut Page)
     ensures { page.new.items ≡ page.old.items ++ text.now }
 {
     page.try_extend_from_slice(text).unwrap();
+}
+
+// Copies a text to the start of a buffer of any size, and answers how many bytes it has.
+#[tactic(auto, unfolding(crate::specs::Text::written))]
+pub fn copy(text: &[u8], output: &mut [u8]) -> usize
+    requires { length text.now ≤ length output.old }
+    ensures value { result ≡ length text.now }
+    ensures output_after { output.new ≡ written text.now output.old }
+{
+    let end = text.len();
+    output[..end].copy_from_slice(text);
+    end
 }

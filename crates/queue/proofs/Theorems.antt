@@ -28,6 +28,7 @@ use Rattle.queue.proofs.Queue.put.Reads as put_reads
 use Rattle.queue.proofs.Queue.take.Reads as take_reads
 use Rattle.queue.proofs.Refusal.number.Reads as number_reads
 use Rattle.queue.proofs.numbers.number.Reads as refusal_reads
+use Rattle.queue.proofs.numbers.put_number.Reads as put_number_reads
 use Rattle.queue.proofs.numbers.word.Reads as word_reads
 
 -- ---- the promise
@@ -208,6 +209,10 @@ take_determined s r r' p q = p ∙ sym q
 
 pub refusal_determined : (o : Result ℕ Refusal) (r r' : ℕ) → refusal_reads.Post tt (o, tt) r (o, tt) → refusal_reads.Post tt (o, tt) r' (o, tt) → r ≡ r'
 refusal_determined o r r' p q = p ∙ sym q
+
+pub put_number_determined :
+    (o : Result (Unit {0}) Refusal) (r r' : ℕ) → put_number_reads.Post tt (o, tt) r (o, tt) → put_number_reads.Post tt (o, tt) r' (o, tt) → r ≡ r'
+put_number_determined o r r' p q = p ∙ sym q
 
 pub word_determined : (o : Result ℕ Refusal) (r r' : ℕ) → word_reads.Post tt (o, tt) r (o, tt) → word_reads.Post tt (o, tt) r' (o, tt) → r ≡ r'
 word_determined o r r' p q = p ∙ sym q

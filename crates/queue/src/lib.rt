@@ -6,7 +6,7 @@ mod numbers;
 mod record;
 mod turns;
 
-pub use numbers::{number, word};
+pub use numbers::{number, put_number, word};
 
 // So many words may wait.
 pub const PLACES: usize = 128;

@@ -26,6 +26,16 @@ pub fn number(outcome: Result<u16, Refusal>) -> u8
     }
 }
 
+// The same of what became of a put, which gives no word.
+pub fn put_number(outcome: Result<(), Refusal>) -> u8
+    ensures { result ≡ outcome_refusal outcome }
+{
+    match outcome {
+        Ok(()) => 0,
+        Err(refusal) => refusal.number(),
+    }
+}
+
 // The word taken; 0 where none was.
 pub fn word(outcome: Result<u16, Refusal>) -> u16
     ensures { result ≡ outcome_word outcome }
