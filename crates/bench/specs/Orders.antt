@@ -1,5 +1,5 @@
 -- What a line does to the docks on the bench: the event words that it sends, one after the other.
-use Rattle.std.specs.Prelude.{ℕ, ◌+◌, ◌*◌, ◌/◌, Bool, true, false, cond, List, [], ◌∷◌, ◌++◌, map, ltb, replicate, Some, None, Result, Ok, Err}
+use Rattle.std.specs.Prelude.{ℕ, ◌+◌, ◌*◌, ◌/◌, Bool, true, false, cond, List, [], ◌∷◌, ◌++◌, map, ltb, replicate, Some, None, Result, Ok, Err, is_ok}
 use Rattle.event.specs.Words.{packed, pack_word, unpacked}
 use Rattle.event.specs.declared.Event.{Event}
 use Rattle.event.specs.declared.Event.TheVariants.{Start, Stop, Byte, Take, Pins, Tick}
@@ -19,6 +19,7 @@ use Rattle.script.specs.declared.Mistake.{Mistake}
 use Rattle.bench.specs.Docks.{AT_REST, record_at, with_record, levels_at, with_levels}
 use Rattle.bench.specs.Levels.{pulled, raised, levels_after, levels_in}
 use Rattle.bench.specs.declared.Bench.{Bench}
+use Rattle.bench.specs.declared.Followed.{Followed}
 use Rattle.bench.specs.declared.Sent.{Sent}
 
 abbrev pub word_for : Event → ℕ
@@ -156,3 +157,7 @@ left (Err m) b = b
 -- The bench after a line.
 abbrev pub after_line : List ℕ → Bench → Bench
 after_line l b = left (heeded l b) b
+
+-- .. and whether the line was understood.
+unfoldable pub followed : List ℕ → Bench → Followed
+followed l b = record { bench = after_line l b; understood = is_ok (heeded l b) }

@@ -1,5 +1,5 @@
 // What can be seen of the bays, in words: state, device, power, lock and lamps, and the interrupt.
-use crate::say::{part, plural, say};
+use crate::say::{part, plural, say, tell};
 use bay::Bay;
 use bits::has;
 use dock::Controller;
@@ -151,7 +151,7 @@ impl SeenBay {
 }
 
 pub(crate) fn tell_unstarted(out: Stdout) {
-    say(out, "  no RESET has come yet\n");
+    tell(out, "  no RESET has come yet\n");
 }
 
 impl Seen {
@@ -163,7 +163,7 @@ impl Seen {
     fn tell_bay_1(self, out: Stdout) {
         let bay = self.bay_1;
         if self.one_bay {
-            say(out, "  bay 1: closed\n");
+            tell(out, "  bay 1: closed\n");
         } else {
             say(out, format_args!("  bay 1: {bay}\n"));
         }
@@ -178,7 +178,7 @@ impl Seen {
         if !self.started {
             return tell_unstarted(out);
         }
-        say(out, part(self.second, "  the second kind is in force\n"));
+        tell(out, part(self.second, "  the second kind is in force\n"));
         self.tell_bay_0(out);
         self.tell_bay_1(out);
         self.tell_interrupt(out);

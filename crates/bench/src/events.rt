@@ -1,7 +1,7 @@
 // Events and what the docks answer, in words.
 use crate::Bench;
 use crate::every::are_several;
-use crate::say::{part, plural, say};
+use crate::say::{part, plural, say, tell};
 use bus::Reply;
 use chassis::{Answer, Refusal};
 use dock::NamingRefusal;
@@ -49,7 +49,7 @@ impl fmt::Display for Named {
 pub(crate) fn tell_word(out: Stdout, word: u16) {
     match event_of(word) {
         Some(event) => say(out, format_args!("  {}", Named(event))),
-        None => say(out, "  no event"),
+        None => tell(out, "  no event"),
     }
 }
 
@@ -99,24 +99,24 @@ fn tell_refusal(out: Stdout, refusal: Refusal, bench: Bench, word: u16) {
     let dock = bench.dock;
     let several = are_several(bench.chassis);
     match refusal {
-        Refusal::WrongLength => say(out, ": refused with 9, a bus has one to four docks"),
-        Refusal::Unfit if several => say(
+        Refusal::WrongLength => tell(out, ": refused with 9, a bus has one to four docks"),
+        Refusal::Unfit if several => tell(
             out,
             ": refused with 1, two docks have one address, or both a read open, or a state isn't fit",
         ),
-        Refusal::Unfit => say(out, ": refused with 1, the state isn't fit"),
-        Refusal::StrayBit => say(out, ": refused with 2, a bit that must be 0 is set"),
+        Refusal::Unfit => tell(out, ": refused with 1, the state isn't fit"),
+        Refusal::StrayBit => tell(out, ": refused with 2, a bit that must be 0 is set"),
         Refusal::Absent => say(
             out,
             format_args!(": refused with 10, there is no dock {dock}"),
         ),
         Refusal::NotStarted => {
-            say(out, ": refused with 3, no RESET yet");
+            tell(out, ": refused with 3, no RESET yet");
             if several {
                 tell_unheard(out, dock, word);
             }
         }
-        Refusal::AddressTaken => say(
+        Refusal::AddressTaken => tell(
             out,
             ": refused with 11, a started neighbour has that address",
         ),
@@ -128,17 +128,17 @@ fn tell_unheard(out: Stdout, dock: u8, word: u16) {
     if is_pins(word) {
         say(out, format_args!(" for dock {dock}"));
     } else {
-        say(out, " for any dock");
+        tell(out, " for any dock");
     }
 }
 
 fn tell_reply(out: Stdout, reply: Reply) {
     match reply {
         Reply::Nothing => {}
-        Reply::Ack => say(out, ": ACK"),
-        Reply::NoAck => say(out, ": no ACK"),
+        Reply::Ack => tell(out, ": ACK"),
+        Reply::NoAck => tell(out, ": no ACK"),
         Reply::Driven(value) => say(out, format_args!(": {value:02X} driven")),
-        Reply::NotDriven => say(out, ": not driven"),
+        Reply::NotDriven => tell(out, ": not driven"),
     }
 }
 
@@ -156,7 +156,7 @@ pub(crate) fn tell_naming(out: Stdout, number: u8, naming: Result<(), NamingRefu
                 format_args!("  the {kind} kind is named: it holds from the next RESET on\n"),
             );
         }
-        Err(NamingRefusal::Unfit) => say(out, "  refused with 1, the state isn't fit\n"),
+        Err(NamingRefusal::Unfit) => tell(out, "  refused with 1, the state isn't fit\n"),
         Err(NamingRefusal::NoSuchKind) => say(
             out,
             format_args!("  refused with 14, {number} is neither kind\n"),

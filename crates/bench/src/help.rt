@@ -1,6 +1,6 @@
 // The verbs, as a person types them.
 use crate::LONGEST;
-use crate::say::{plural, say};
+use crate::say::{plural, say, tell};
 use script::{Hand, Mistake, Verb};
 use std::fmt;
 use std::io::Stdout;
@@ -98,7 +98,7 @@ fn tell_usage(out: Stdout, usage: &str) {
 }
 
 pub(crate) fn tell_help(out: Stdout) {
-    say(
+    tell(
         out,
         "  One order to a line; what follows a # is a comment. Numbers are hex, but for the ticks, the kind and the docks.\n",
     );

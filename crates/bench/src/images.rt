@@ -8,7 +8,7 @@ use crate::bays::look;
 use crate::docks::{is_there, with_place, with_record};
 use crate::events::tell_absent;
 use crate::levels::levels_in;
-use crate::say::{plural, say, say_typed};
+use crate::say::{plural, say, say_typed, tell};
 use bay::Bay;
 use dock::Controller;
 use image::Flaw;
@@ -28,9 +28,9 @@ const NUSB: usize = image::COUNTS + Bay::NUSB;
 const NREMREQ: usize = image::COUNTS + Bay::NREMREQ;
 
 pub(crate) fn tell_image(out: Stdout, controller: Controller) {
-    say(out, "  ");
+    tell(out, "  ");
     say_typed(out, &paste::write(controller));
-    say(out, "\n");
+    tell(out, "\n");
 }
 
 // The chosen dock goes on from the image, or stays as it was.
@@ -44,7 +44,7 @@ pub(crate) fn load(out: Stdout, bench: Bench, text: &[u8]) -> Bench
     }
     match paste::read(text) {
         Ok(pasted) => {
-            say(out, "  loaded\n");
+            tell(out, "  loaded\n");
             look(pasted.controller).tell(out);
             bench.going_on(pasted.controller)
         }
@@ -71,7 +71,7 @@ impl Bench {
 
 fn tell_refused(out: Stdout, refused: Refused) {
     let bytes = refused.bytes;
-    say(out, "  not loaded, the dock is as it was: ");
+    tell(out, "  not loaded, the dock is as it was: ");
     match refused.finding {
         Finding::NoDigit(count) => {
             let s = plural(count as u64);
@@ -98,7 +98,7 @@ fn tell_refused(out: Stdout, refused: Refused) {
         Finding::NoImage(flaw) => tell_flaw(out, flaw, bytes),
         Finding::Unfit(number) => tell_unfit(out, number),
     }
-    say(out, "\n");
+    tell(out, "\n");
 }
 
 // What stands at a place of an image.

@@ -1,11 +1,10 @@
 // Standard input, line by line.
-use crate::Typed;
-use arrayvec::ArrayVec;
+use crate::{Page, Typed};
 use std::io::{Read, Stdin};
 
 // Reads a line. What has no place in it is read and let go.
-pub(crate) fn read_line(mut input: Stdin) -> Typed {
-    let mut line = ArrayVec::new();
+pub(crate) fn read_line(mut input: Stdin, line: &mut Page) -> Typed {
+    line.clear();
     let mut longer = false;
     for _ in 0..u64::MAX {
         let mut one = [0];
@@ -15,7 +14,6 @@ pub(crate) fn read_line(mut input: Stdin) -> Typed {
         let [c] = one;
         if c == b'\n' {
             return Typed {
-                line,
                 longer,
                 ended: false,
             };
@@ -23,7 +21,6 @@ pub(crate) fn read_line(mut input: Stdin) -> Typed {
         longer |= line.try_push(c).is_err();
     }
     Typed {
-        line,
         longer,
         ended: true,
     }

@@ -13,7 +13,7 @@ use crate::help::tell_help;
 use crate::images::{load, tell_image};
 use crate::levels::{pulled, raised};
 use crate::registers::tell_registers;
-use crate::say::{part, say};
+use crate::say::{part, say, tell};
 use crate::sending::{send, step, tell_end, word_for};
 use crate::transfers::{read, write};
 use chassis::{Answer, Chassis, MOST};
@@ -25,7 +25,7 @@ use std::io::Stdout;
 // What one word did. After a RESET everything of its dock is told, since everything is new.
 fn tell_one(out: Stdout, before: Bench, word: u16, answer: Answer, after: Bench) {
     if is_reset(word) && answer.is_ok() {
-        say(out, "\n");
+        tell(out, "\n");
         tell_dock(out, after.chassis, after.dock);
     } else {
         tell_end(out, before, after);
@@ -62,9 +62,9 @@ fn name(out: Stdout, bench: Bench, number: u8) -> Bench
 fn tell_tick(out: Stdout, i: u16, answer: Answer, before: Bench, after: Bench) -> bool {
     if answer.is_err() {
         if i == 1 {
-            say(out, "  TICK");
+            tell(out, "  TICK");
             tell_answer(out, answer, before, word_for(Event::Tick));
-            say(out, "\n");
+            tell(out, "\n");
         }
         return true;
     }
@@ -89,7 +89,7 @@ fn ticks(out: Stdout, bench: Bench, count: u16) -> Bench
         quiet &= !tell_tick(out, i + 1, sent.answer, state, sent.bench);
         state = sent.bench;
     }
-    say(out, part(quiet, "  no change\n"));
+    tell(out, part(quiet, "  no change\n"));
     state
 }
 

@@ -5,7 +5,7 @@ ghost use Rattle.bench.specs.Orders.{word_for, sent_of};
 use crate::events::{tell_answer, tell_word};
 use crate::every::tell_all_changed;
 use crate::levels::levels_after;
-use crate::say::say;
+use crate::say::tell;
 use crate::{Bench, Sent};
 use event::Event;
 use std::io::Stdout;
@@ -51,6 +51,6 @@ pub(crate) fn sent(out: Stdout, bench: Bench, event: Event) -> Bench
 
 // What comes after the events of a line: their end, and what they changed.
 pub(crate) fn tell_end(out: Stdout, before: Bench, after: Bench) {
-    say(out, "\n");
+    tell(out, "\n");
     tell_all_changed(out, before.chassis, after.chassis);
 }
