@@ -68,6 +68,20 @@ module _ (ws b₀ : List ℕ) (i : ℕ) (b : List ℕ) (h : Written ws b₀ i b)
       let rest : drop (2 * i) b₀ ≡ [] = drop_of_length-le b₀ {i = 2 * i} (omega (arith, l, room)) in
       h.bytes ∙ rw (rest, take_all i ws l) (append-nil (bytes_of ws))
 
+-- .. at the place that is next.
+pub record Writing (ws b₀ : List ℕ) (i at : ℕ) (b : List ℕ) : Type 0 where
+  pub even : at ≡ 2 * i
+  pub written : Written ws b₀ i b
+
+pub none_begun : (ws b₀ : List ℕ) → Writing ws b₀ 0 0 b₀
+none_begun ws b₀ = record { even = refl; written = none_written ws b₀ }
+
+pub writing_more :
+    (ws b₀ : List ℕ) (i at : ℕ) (b : List ℕ) → Writing ws b₀ i at b → length b₀ ≡ length ws * 2 → i < length ws
+    → Writing ws b₀ (i + 1) (at + 2) (set (set b at (get_or ws i 0 / 256)) (at + 1) (get_or ws i 0 % 256))
+writing_more ws b₀ i at b h room l =
+    record { even = omega (arith, h.even); written = rw h.even (written_more ws b₀ i b h.written room l) }
+
 -- ---- reading
 
 pub record Read (bs w₀ : List ℕ) (i : ℕ) (ws : List ℕ) : Type 0 where

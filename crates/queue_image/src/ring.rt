@@ -8,10 +8,12 @@ pub(crate) fn write(words: &[u16], bytes: &mut [u8])
     requires { length bytes.old ≡ length words.now * 2 }
     ensures { bytes.new ≡ bytes_of words.now }
 {
-    for (i, word) in words.iter().enumerate() {
+    let mut at = 0;
+    for word in words {
         let [high, low] = two_bytes(*word);
-        bytes[2 * i] = high;
-        bytes[2 * i + 1] = low;
+        bytes[at] = high;
+        bytes[at + 1] = low;
+        at += 2;
     }
 }
 

@@ -38,17 +38,16 @@ impl Lines {
     pub(crate) fn after(self, sample: u8) -> Lines
         ensures { result ≡ lines_after self sample }
     {
-        let low = if sclk(sample) {
-            0
-        } else if self.low <= Lines::MOST_LOW {
+        let sdat = sdat(sample);
+        if sclk(sample) {
+            return Lines { sdat, low: 0 };
+        }
+        let low = if self.low <= Lines::MOST_LOW {
             self.low + 1
         } else {
             self.low
         };
-        Lines {
-            sdat: sdat(sample),
-            low,
-        }
+        Lines { sdat, low }
     }
 
     // What a sample shows.

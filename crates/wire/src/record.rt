@@ -31,8 +31,9 @@ impl Wire {
     pub fn hear(self, sample: u8) -> Heard
         ensures { result ≡ hear_of self sample }
     {
+        let shown = self.lines.shown(sample);
         let lines = self.lines.after(sample);
-        let Some(shown) = self.lines.shown(sample) else {
+        let Some(shown) = shown else {
             return Heard {
                 wire: Wire { lines, ..self },
                 given: None,
