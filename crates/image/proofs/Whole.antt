@@ -6,7 +6,7 @@ use mathlib.Core.Bool.{Bool, true, false, cond, false≢true}
 use mathlib.Core.List.{List}
 use Rattle.dock.specs.Record.{fresh_controller}
 use Rattle.dock.specs.declared.Controller.{Controller}
-use Rattle.image.specs.Load.{Verdict, whole, verdict_on, is_image, state_in, state_by, load_of, state_of}
+use Rattle.image.specs.Load.{Verdict, whole, verdict_on, is_image, state_in, load_of, state_of}
 use Rattle.image.specs.declared.Flaw.{Flaw}
 use Rattle.std.specs.Prelude.{Option, Some, None, Ok, Err}
 
