@@ -50,7 +50,7 @@ use Rattle.chassis.specs.declared.Chassis.{Chassis}
 use Rattle.bench.proofs.Alone.{as_answered, alone_leaves, alone_answers}
 use Rattle.bench.specs.Docks.{AT_REST, record_at, with_record, levels_at, with_levels}
 use Rattle.bench.specs.Levels.{pulled, raised, given_by, given_in, levels_after, bay_levels, levels_in}
-use Rattle.bench.specs.Orders.{words_of, fresh_docks, fresh_bench, sent_of, after_words, sending, is_there, becomes, named_as, taken_up, loaded_by, obeyed, does, heeded, left, after_line}
+use Rattle.bench.specs.Orders.{words_of, fresh_docks, fresh_bench, sent_of, after_words, sending, is_there, becomes, named_as, taken_up, loaded_by, obeyed, does, heeded, left, after_line, followed}
 use Rattle.bench.specs.Examples.{Example, words_typed, typed_words, examples, trace_lines, trace_words, Loading, loaded_words, loadings}
 use Rattle.bench.specs.declared.Bench.{Bench}
 use Rattle.std.specs.Prelude.{Result, Ok, Err}
@@ -180,6 +180,11 @@ nothing_done l b no-order = go (line_of l) refl
     go (Ok None) e = refl
     go (Ok (Some o)) e = absurd (no-order o e)
     go (Err m) e = refl
+
+-- .. of the bench that the program goes on with.
+pub nothing_followed : (l : List ℕ) (b : Bench) → ((o : Order) → line_of l ≡ Ok (Some o) → ⊥) → (followed l b).bench ≡ b
+unfolding followed
+nothing_followed l b no-order = nothing_done l b no-order
 
 -- ---- images
 
